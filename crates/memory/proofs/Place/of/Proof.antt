@@ -1,0 +1,15 @@
+use Rattle.memory.proofs.Place.of.Statement.{statement}
+use Rattle.memory.proofs.Place.of.Tie as tie
+use Rattle.memory.proofs.Place.of.Reads as reads
+use Rattle.memory.proofs.Place.of.Lts as lts
+
+-- src/lib.rt:36:5
+returns : tie.Need-returns
+returns c = ?
+
+-- src/lib.rt:36:5
+returns-2 : tie.Need-returns-2
+returns-2 c = ?
+
+pub of-spec : {M : Type 1} → statement M
+of-spec = tie.close (tie.spec returns returns-2)

@@ -1,0 +1,35 @@
+use borrow.Author.Needs.{needs}
+use Rattle.memory.proofs.range_at.Statement.{statement}
+use Rattle.memory.proofs.range_at.Tie as tie
+use Rattle.memory.proofs.range_at.Reads as reads
+use Rattle.memory.proofs.range_at.Lts as lts
+use Rattle.memory.proofs.Address.of.Reads as of-reads
+use Rattle.memory.proofs.Address.range.Reads as range-reads
+
+-- src/lib.rt:117:9
+of-requires : tie.Need-of-requires
+of-requires c κs = search needs
+
+-- src/lib.rt:119:31
+enum-told : tie.Need-enum-told
+enum-told c = search needs
+
+-- src/lib.rt:120:26
+enum-known-found : tie.Need-enum-known-found
+enum-known-found c = search needs
+
+-- src/lib.rt:120:32
+range-requires : tie.Need-range-requires
+range-requires c κs = search needs
+
+-- src/lib.rt:114:1
+returns : tie.Need-returns
+returns c = ?
+
+-- src/lib.rt:114:1
+returns-2 : tie.Need-returns-2
+returns-2 c = ?
+
+pub range-at-spec : {M : Type 1} → statement M
+range-at-spec =
+    tie.close (tie.spec of-requires enum-told enum-known-found range-requires returns returns-2)

@@ -1,0 +1,15 @@
+use Rattle.memory.proofs.tables_wrong.Statement.{statement}
+use Rattle.memory.proofs.tables_wrong.Tie as tie
+use Rattle.memory.proofs.tables_wrong.Reads as reads
+use Rattle.memory.proofs.tables_wrong.Lts as lts
+
+-- src/lib.rt:129:9
+returns : tie.Need-returns
+returns c = ?
+
+-- src/lib.rt:125:1
+returns-2 : tie.Need-returns-2
+returns-2 c = ?
+
+pub tables-wrong-spec : {M : Type 1} → statement M
+tables-wrong-spec = tie.close (tie.spec returns returns-2)

@@ -1,0 +1,45 @@
+use borrow.Author.Needs.{needs}
+use mathlib.Core.Path.{_≡_, refl, sym, _∙_}
+use Prim.Native.Nat.{_≤_, _-_}
+use lib.ListN.{length, drop}
+use Rattle.octets.specs.Bytes.{xorOn}
+use Rattle.octets.proofs.Laws.{xor-step, xor-end}
+use Rattle.octets.proofs.xor_on.Statement.{statement}
+use Rattle.octets.proofs.xor_on.Tie as tie
+use Rattle.octets.proofs.xor_on.Reads as reads
+use Rattle.octets.proofs.xor_on.Lts as lts
+
+abbrev Inv-loop : tie.InvT-loop
+Inv-loop start s x₀ i₀ x i = (i ≤ length s) × (xorOn x (drop i s) ≡ xorOn start s)
+
+abbrev μ-loop : tie.MeasureT-loop
+μ-loop start s x₀ i₀ x i = length s - i
+
+-- src/lib.rt:55:5
+loop-holds : tie.Need-loop-holds Inv-loop μ-loop
+loop-holds c = (search needs, refl)
+
+-- src/lib.rt:56:17
+shared-slice-read-x : tie.Need-shared-slice-read-x Inv-loop μ-loop
+shared-slice-read-x c = search needs
+
+-- src/lib.rt:57:9
+add-i : tie.Need-add-i Inv-loop μ-loop
+add-i c = search needs
+
+-- src/lib.rt:55:5
+loop-less : tie.Need-loop-less Inv-loop μ-loop
+loop-less c = search needs
+
+-- src/lib.rt:55:5
+loop-again : tie.Need-loop-again Inv-loop μ-loop
+loop-again c = (search needs, xor-step _ _ _ (c .before .loop-test .taken) ∙ c .before .before .loop .inv .1)
+
+-- src/lib.rt:50:1
+returns : tie.Need-returns Inv-loop μ-loop
+returns c = sym (xor-end _ _ _ (c .loop-test .left)) ∙ c .before .loop .inv .1
+
+pub xor-on-spec : {M : Type 1} → statement M
+xor-on-spec =
+    tie.close
+    (tie.spec Inv-loop μ-loop loop-holds shared-slice-read-x add-i loop-less loop-again returns)
