@@ -1,0 +1,5 @@
+pub mod Text
+pub mod Starts
+pub mod Raster
+pub mod LineList
+pub mod Env
