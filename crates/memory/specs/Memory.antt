@@ -26,8 +26,11 @@ unfoldable pub tablesWrong : List ℕ → List ℕ → Bool
 tablesWrong seqs lists = not (eqb (length seqs) 16384) || not (eqb (length lists) 7872)
 
 -- "A place in a sequence and an address in memory are kept apart"
+abbrev pub placeAt : ℕ → Place
+placeAt n = record { 0 = n }
+
 abbrev pub placeOf : ℕ → Placed
-placeOf n = cond (ltb n 128) (At (record { 0 = n })) Outside
+placeOf n = cond (ltb n 128) (At (placeAt n)) Outside
 
 -- "addresses 0x070000 to 0x073FFF .. 0x074000 to 0x075EBF"
 abbrev pub addressOf : ℕ → Addressed

@@ -108,7 +108,7 @@ pub fn xor_good(text: &[u8]) -> bool
 }
 
 // The test of an entry: length, XOR, repeats.
-pub fn header(text: &[u8]) -> Header
+pub fn header_of(text: &[u8]) -> Header
     ensures { λ r. ⌜ r ≡ headerOf (now (text .entry)) ⌝ }
 {
     if !length_good(text) {

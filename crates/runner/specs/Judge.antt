@@ -1,0 +1,126 @@
+-- What the command at a place comes to, from the text, the place, the open raster's place and the exposures in the set alone.
+-- The step acts on this judgement and the table check walks the text with it.
+use Prim.Native.Nat.{ℕ, _+_}
+use mathlib.Core.Bool.{Bool, true, false, cond, not}
+use mathlib.Core.List.{List, [], _∷_}
+use lib.Dec.{ltb, leb, eqb}
+use Rattle.octets.specs.Rows.{Row, row, firstCode}
+use Rattle.memory.specs.declared.Place.{Place}
+use Rattle.sequence.specs.declared.Command.{Command}
+use Rattle.sequence.specs.declared.Command.the-variants.{RunRaster, Expose, LoopBack, CallSequence, Terminate, Delay, Nothing, Unknown, Unfit}
+use Rattle.sequence.specs.declared.RasterWords.{RasterWords}
+use Rattle.sequence.specs.Text.{limit, sizeAt, commandAt}
+use Rattle.sequence.specs.Starts.{targetGood}
+use Rattle.sequence.specs.Raster.{rasterAt, flagsGood, reachOf}
+use Rattle.sequence.specs.LineList.{isGood}
+use Rattle.sequence.specs.Env.{Env}
+use Rattle.runner.specs.declared.Opened.{Opened}
+use Rattle.runner.specs.declared.Opened.the-variants.{Shut, Open}
+use Rattle.runner.specs.declared.Act.{Act}
+use Rattle.runner.specs.declared.Act.the-variants.{Refused, Opens, Exposes, Loops, Waits, Calls, Ends}
+
+-- ── the open raster
+-- "raster open"
+abbrev pub isOpen : Opened → Bool
+isOpen Shut = false
+isOpen (Open r c) = true
+
+-- "raster already open": at its own place a run raster is a repeat's jump back
+abbrev pub openElsewhere : ℕ → Opened → Bool
+openElsewhere p Shut = false
+openElsewhere p (Open r c) = not (eqb (r .0) p)
+
+abbrev pub isRunRaster : Command → Bool
+isRunRaster RunRaster = true
+isRunRaster (Expose t) = false
+isRunRaster (LoopBack t) = false
+isRunRaster (CallSequence n) = false
+isRunRaster Terminate = false
+isRunRaster (Delay t) = false
+isRunRaster Nothing = false
+isRunRaster Unknown = false
+isRunRaster Unfit = false
+
+-- how many exposures fill a set: the raster's, and never more than 8
+abbrev pub setOf : RasterWords → ℕ
+setOf raster = cond (leb (raster .exposures) 8) (raster .exposures) 8
+
+-- the set of the raster at r is full with c exposures
+abbrev pub full : List ℕ → Place → ℕ → Bool
+full text r c = leb (setOf (rasterAt text (r .0))) c
+
+-- ── the refusals of each command, in order
+-- "initial or step above 2400, or initial + (loops - 1) x step above 2400, 14; ASRC not 0, or more than one of science bits 2-5 set, 3"
+unfoldable pub pathRows : RasterWords → List Row
+pathRows raster =
+    row 14 (ltb 2400 (raster .initial))
+    ∷ row 14 (ltb 2400 (raster .step))
+    ∷ row 14 (ltb 2400 (reachOf raster 0))
+    ∷ row 3 (not (eqb (raster .asrc) 0))
+    ∷ row 3 (not (flagsGood (raster .science)))
+    ∷ []
+
+abbrev pub listBad : Env → ℕ → Bool
+listBad E n = not (isGood (E .lists n))
+
+-- "loops or repeats 0, 11; exposures not 1-8, 5; line list above 47, 6; line list bad 7"
+unfoldable pub rasterRows : Env → RasterWords → List Row
+rasterRows E raster =
+    row 11 (eqb (raster .loops) 0)
+    ∷ row 11 (eqb (raster .repeats) 0)
+    ∷ row 5 (eqb (raster .exposures) 0)
+    ∷ row 5 (ltb 8 (raster .exposures))
+    ∷ row 6 (ltb 47 (raster .list))
+    ∷ row 7 (listBad E (raster .list))
+    ∷ pathRows raster
+
+-- "Run raster: raster already open 3 (a repeat's jump back isn't that ..)"
+unfoldable pub runRows : Env → List ℕ → ℕ → Opened → List Row
+runRows E text p o = row 3 (openElsewhere p o) ∷ rasterRows E (rasterAt text p)
+
+-- "Expose: no open raster, time 0, or the set already full, 3."
+unfoldable pub exposeRows : List ℕ → ℕ → Opened → List Row
+exposeRows text time Shut = row 3 true ∷ []
+exposeRows text time (Open r c) =
+    row 3 (not (isRunRaster (commandAt text (r .0))))
+    ∷ row 3 (eqb time 0)
+    ∷ row 3 (full text r c)
+    ∷ []
+
+-- "Loop back: no open raster, set not full, or target not the start of a command .., 3."
+unfoldable pub loopRows : List ℕ → ℕ → ℕ → Opened → List Row
+loopRows text p t Shut = row 3 true ∷ []
+loopRows text p t (Open r c) =
+    row 3 (not (isRunRaster (commandAt text (r .0))))
+    ∷ row 3 (not (full text r c))
+    ∷ row 3 (not (targetGood text (r .0) p t))
+    ∷ []
+
+-- "Call, terminate: raster open, or not ending at the checksum, 3."
+unfoldable pub closeRows : List ℕ → ℕ → Opened → List Row
+closeRows text p o = row 3 (isOpen o) ∷ row 3 (not (eqb (p + sizeAt text p) (limit text))) ∷ []
+
+-- ── the judgement
+-- the act, unless a row refused it
+abbrev pub unless : ℕ → Act → Act
+unless code act = cond (eqb code 0) act (Refused code)
+
+-- an exposure in the open raster
+abbrev pub exposesIn : Opened → Act
+exposesIn Shut = Refused 3
+exposesIn (Open r c) = Exposes r
+
+-- "No command there .., an unknown number, or one that doesn't fit before the checksum: 3."
+unfoldable pub judged : Env → List ℕ → ℕ → Opened → Command → Act
+judged E text p o RunRaster = unless (firstCode (runRows E text p o)) Opens
+judged E text p o (Expose time) = unless (firstCode (exposeRows text time o)) (exposesIn o)
+judged E text p o (LoopBack t) = unless (firstCode (loopRows text p t o)) (Loops t)
+judged E text p o (CallSequence n) = unless (firstCode (closeRows text p o)) (Calls n)
+judged E text p o Terminate = unless (firstCode (closeRows text p o)) Ends
+judged E text p o (Delay time) = Waits
+judged E text p o Nothing = Refused 3
+judged E text p o Unknown = Refused 3
+judged E text p o Unfit = Refused 3
+
+unfoldable pub judge : Env → List ℕ → ℕ → Opened → Act
+judge E text p o = judged E text p o (commandAt text p)

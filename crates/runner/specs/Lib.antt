@@ -1,0 +1,4 @@
+pub mod With
+pub mod Events
+pub mod Judge
+pub mod Step

@@ -1,0 +1,538 @@
+// The interpreter: what the command at a place comes to, and what one step does with it.
+ghost use mathlib.Core.Path.{_≡_};
+ghost use Prim.Native.Nat.{_+_, _<_, _≤_};
+ghost use lib.ListN.{length};
+ghost use Rattle.octets.specs.Rows.{firstCode};
+ghost use Rattle.memory.specs.Memory.{entryOf};
+ghost use Rattle.sequence.specs.Text.{sizeOf, sizeAt};
+ghost use Rattle.sequence.specs.Raster.{rasterAt, reachOf};
+ghost use Rattle.sequence.specs.Env.{envOf};
+ghost use Rattle.runner.specs.Judge.{isOpen, openElsewhere, isRunRaster, setOf, full, listBad, pathRows, rasterRows, runRows, exposeRows, loopRows, closeRows, unless, exposesIn, judge};
+ghost use Rattle.runner.specs.Step.{openOf, aborted, entered, begun, advances, exposedAt, exposed, looped, delayed, another, called, ended, act, stepIn, stepOf};
+use memory::Place;
+use memory::Placed;
+use sequence::Command;
+use sequence::Header;
+use sequence::ListTest;
+use sequence::RasterWords;
+
+// What the interpreter moves. A count left includes the pass, repeat or round under way; 0 is taken as 1.
+pub struct Runner {
+    // the status sequence, 255 for none
+    pub sequence: u8,
+    pub place: u8,
+    pub running: bool,
+    pub entering: bool,
+    // the open raster's place, 255 for none
+    pub raster: u8,
+    // exposures made in the present set
+    pub count: u8,
+    pub passes: u16,
+    pub repeats: u16,
+    pub rounds: u8,
+    pub mirror: u16,
+}
+
+// What a step shows, a case for each word that the desk prints.
+pub enum Event {
+    Idle,
+    Enter(u8),
+    // id, position, line list
+    Raster(u16, u16, u8),
+    // position
+    Exp(u16),
+    Loop(u8),
+    Next,
+    Done,
+    Wait(u16),
+    Call(u8),
+    End,
+    // code, sequence, place
+    Abort(u8, u8, u8),
+}
+
+pub struct Stepped {
+    pub event: Event,
+    pub runner: Runner,
+}
+
+// What is seen of a step: its event, and the sequence, place and mirror after it.
+pub struct Sight {
+    pub event: Event,
+    pub sequence: u8,
+    pub place: u8,
+    pub mirror: u16,
+}
+
+// The raster that is open: its place and the exposures made in the set.
+pub enum Opened {
+    Shut,
+    Open(Place, u8),
+}
+
+// What the command at a place comes to: refused with a code, or what it does; an exposure names its raster's place.
+pub enum Act {
+    Refused(u8),
+    Opens,
+    Exposes(Place),
+    Loops(u8),
+    Waits,
+    Calls(u8),
+    Ends,
+}
+
+// An act, unless a row refused it.
+fn unless(code: u8, act: Act) -> Act
+    ensures { λ r. ⌜ r ≡ unless code act ⌝ }
+{
+    if code == 0 { act } else { Act::Refused(code) }
+}
+
+// Whether a command is a run raster.
+fn is_run_raster(command: Command) -> bool
+    ensures { λ r. ⌜ r ≡ isRunRaster command ⌝ }
+{
+    match command {
+        Command::RunRaster => true,
+        Command::Expose(_) => false,
+        Command::LoopBack(_) => false,
+        Command::CallSequence(_) => false,
+        Command::Terminate => false,
+        Command::Delay(_) => false,
+        Command::Nothing => false,
+        Command::Unknown => false,
+        Command::Unfit => false,
+    }
+}
+
+impl Opened {
+    // Whether a raster is open.
+    fn is_open(self) -> bool
+        ensures { λ r. ⌜ r ≡ isOpen self ⌝ }
+    {
+        match self {
+            Opened::Shut => false,
+            Opened::Open(_, _) => true,
+        }
+    }
+
+    // Whether a raster is open at another place than this.
+    fn elsewhere(self, at: Place) -> bool
+        ensures { λ r. ⌜ r ≡ openElsewhere (at .0) self ⌝ }
+    {
+        match self {
+            Opened::Shut => false,
+            Opened::Open(r, _) => r.number() != at.number(),
+        }
+    }
+}
+
+// How many exposures fill a set.
+fn set_of(raster: RasterWords) -> u8
+    ensures { λ r. ⌜ r ≡ setOf raster ⌝ }
+{
+    if raster.exposures <= 8 {
+        raster.exposures
+    } else {
+        8
+    }
+}
+
+// Whether the set of the raster at a place is full.
+fn full(text: &[u8], raster: Place, count: u8) -> bool
+    ensures { λ r. ⌜ r ≡ full (now (text .entry)) raster count ⌝ }
+{
+    set_of(sequence::raster_at(text, raster)) <= count
+}
+
+// Where a raster's last pass stands.
+fn reach(raster: RasterWords) -> u32
+    ensures { λ r. ⌜ r ≡ reachOf raster 0 ⌝ }
+{
+    if raster.loops == 0 {
+        return raster.initial as u32;
+    }
+    raster.initial as u32 + (raster.loops as u32 - 1) * (raster.step as u32)
+}
+
+// Whether a line list is bad.
+fn list_bad(lists: &[u8], n: u8) -> bool
+    ensures { λ r. ⌜ r ≡ listBad (envOf (now (lists .entry))) n ⌝ }
+{
+    match sequence::list_test(memory::list(lists, n)) {
+        ListTest::Good => false,
+        ListTest::Bad => true,
+    }
+}
+
+// The code with which a raster's words are refused, or 0.
+fn raster_fault(raster: RasterWords, lists: &[u8]) -> u8
+    ensures { λ r. ⌜ r ≡ firstCode (rasterRows (envOf (now (lists .entry))) raster) ⌝ }
+{
+    octets::refuse(
+        raster.loops == 0,
+        11,
+        octets::refuse(
+            raster.repeats == 0,
+            11,
+            octets::refuse(
+                raster.exposures == 0,
+                5,
+                octets::refuse(
+                    8 < raster.exposures,
+                    5,
+                    octets::refuse(
+                        47 < raster.list,
+                        6,
+                        octets::refuse(list_bad(lists, raster.list), 7, path_fault(raster)),
+                    ),
+                ),
+            ),
+        ),
+    )
+}
+
+// The code with which a raster's path and flags are refused, or 0.
+fn path_fault(raster: RasterWords) -> u8
+    ensures { λ r. ⌜ r ≡ firstCode (pathRows raster) ⌝ }
+{
+    octets::refuse(
+        Runner::END_STOP < raster.initial,
+        14,
+        octets::refuse(
+            Runner::END_STOP < raster.step,
+            14,
+            octets::refuse(
+                (Runner::END_STOP as u32) < reach(raster),
+                14,
+                octets::refuse(
+                    raster.asrc != 0,
+                    3,
+                    octets::refuse(!sequence::flags_good(raster.science), 3, 0),
+                ),
+            ),
+        ),
+    )
+}
+
+// The code with which a run raster is refused, or 0.
+fn run_fault(text: &[u8], lists: &[u8], at: Place, open: Opened) -> u8
+    ensures { λ r. ⌜ r ≡ firstCode (runRows (envOf (now (lists .entry))) (now (text .entry)) (at .0) open) ⌝ }
+{
+    let raster = sequence::raster_at(text, at);
+    octets::refuse(open.elsewhere(at), 3, raster_fault(raster, lists))
+}
+
+// The code with which an expose is refused in the raster at a place, or 0.
+fn expose_fault(text: &[u8], time: u16, raster: Place, count: u8) -> u8
+    ensures { λ r. ⌜ r ≡ firstCode (exposeRows (now (text .entry)) time (Opened.Open raster count)) ⌝ }
+{
+    octets::refuse(
+        !is_run_raster(sequence::command_at(text, raster)),
+        3,
+        octets::refuse(time == 0, 3, octets::refuse(full(text, raster, count), 3, 0)),
+    )
+}
+
+// The code with which a loop back is refused in the raster at a place, or 0.
+fn loop_fault(text: &[u8], at: Place, target: u8, raster: Place, count: u8) -> u8
+    ensures { λ r. ⌜ r ≡ firstCode (loopRows (now (text .entry)) (at .0) target (Opened.Open raster count)) ⌝ }
+{
+    octets::refuse(
+        !is_run_raster(sequence::command_at(text, raster)),
+        3,
+        octets::refuse(
+            !full(text, raster, count),
+            3,
+            octets::refuse(!sequence::target_good(text, raster, at, target), 3, 0),
+        ),
+    )
+}
+
+// What an expose comes to.
+fn judge_expose(text: &[u8], time: u16, open: Opened) -> Act
+    ensures { λ r. ⌜ r ≡ unless (firstCode (exposeRows (now (text .entry)) time open)) (exposesIn open) ⌝ }
+{
+    match open {
+        Opened::Shut => Act::Refused(3),
+        Opened::Open(raster, count) => unless(expose_fault(text, time, raster, count), Act::Exposes(raster)),
+    }
+}
+
+// What a loop back comes to.
+fn judge_loop(text: &[u8], at: Place, target: u8, open: Opened) -> Act
+    ensures { λ r. ⌜ r ≡ unless (firstCode (loopRows (now (text .entry)) (at .0) target open)) (Act.Loops target) ⌝ }
+{
+    match open {
+        Opened::Shut => Act::Refused(3),
+        Opened::Open(raster, count) => unless(loop_fault(text, at, target, raster, count), Act::Loops(target)),
+    }
+}
+
+// The code with which a call or terminate of this size is refused, or 0.
+fn close_fault(text: &[u8], at: Place, size: u8, open: Opened) -> u8
+    requires { ⌜ size ≡ sizeAt (now text) (at .0) ⌝ }
+    ensures { λ r. ⌜ r ≡ firstCode (closeRows (now (text .entry)) (at .0) open) ⌝ }
+{
+    let end = at.number() as usize + size as usize;
+    octets::refuse(
+        open.is_open(),
+        3,
+        octets::refuse(end != sequence::limit(text) as usize, 3, 0),
+    )
+}
+
+// What the command at a place comes to.
+pub fn judge(text: &[u8], lists: &[u8], at: Place, open: Opened) -> Act
+    ensures { λ r. ⌜ r ≡ judge (envOf (now (lists .entry))) (now (text .entry)) (at .0) open ⌝ }
+{
+    let command = sequence::command_at(text, at);
+    match command {
+        Command::RunRaster => unless(run_fault(text, lists, at, open), Act::Opens),
+        Command::Expose(time) => judge_expose(text, time, open),
+        Command::LoopBack(target) => judge_loop(text, at, target, open),
+        Command::CallSequence(n) => unless(close_fault(text, at, sequence::size_of(0x93), open), Act::Calls(n)),
+        Command::Terminate => unless(close_fault(text, at, sequence::size_of(0x94), open), Act::Ends),
+        Command::Delay(_) => Act::Waits,
+        Command::Nothing => Act::Refused(3),
+        Command::Unknown => Act::Refused(3),
+        Command::Unfit => Act::Refused(3),
+    }
+}
+
+impl Runner {
+    // The mirror's end stop.
+    pub const END_STOP: u16 = 2400;
+
+    // No sequence, and no open raster.
+    pub const NONE: u8 = 255;
+
+    // The raster that is open.
+    fn opened(self) -> Opened
+        ensures { λ r. ⌜ r ≡ openOf self ⌝ }
+    {
+        match Place::of(self.raster) {
+            Placed::At(raster) => Opened::Open(raster, self.count),
+            Placed::Outside => Opened::Shut,
+        }
+    }
+
+    // Stopped with a code at a place, and nothing else changed.
+    fn aborted(mut self, code: u8, place: u8) -> Stepped
+        ensures { λ r. ⌜ r ≡ aborted code place self ⌝ }
+    {
+        let event = Event::Abort(code, self.sequence, place);
+        self.place = place;
+        self.running = false;
+        Stepped { event, runner: self }
+    }
+
+    // The sequence entered, or why not.
+    fn enter(mut self, text: &[u8]) -> Stepped
+        ensures { λ r. ⌜ r ≡ entered (now (text .entry)) self ⌝ }
+    {
+        match sequence::header_of(text) {
+            Header::Fault { code, place } => self.aborted(code, place),
+            Header::Repeats(rounds) => {
+                self.entering = false;
+                self.place = 4;
+                self.rounds = rounds;
+                Stepped {
+                    event: Event::Enter(self.sequence),
+                    runner: self,
+                }
+            }
+        }
+    }
+
+    // The run raster at a place begun: its first repeat, or the next.
+    fn run_raster(mut self, text: &[u8], at: Place) -> Stepped
+        requires { ⌜ (at .0 ≡ self .place) × (sizeAt (now text) (self .place) ≡ sizeOf 0x90) × (self .place + sizeOf 0x90 < 256) ⌝ }
+        ensures { λ r. ⌜ r ≡ begun (now (text .entry)) self ⌝ }
+    {
+        let raster = sequence::raster_at(text, at);
+        let reopened = self.opened().is_open();
+        self.raster = self.place;
+        self.place = self.place + sequence::size_of(0x90);
+        self.count = 0;
+        self.passes = raster.loops;
+        if !reopened {
+            self.repeats = raster.repeats;
+        }
+        self.mirror = raster.initial;
+        Stepped {
+            event: Event::Raster(raster.id, raster.initial, raster.list),
+            runner: self,
+        }
+    }
+
+    // Whether this exposure fills the set and passes remain.
+    fn advances(self, raster: RasterWords) -> bool
+        ensures { λ r. ⌜ r ≡ advances raster self ⌝ }
+    {
+        if self.passes <= 1 {
+            return false;
+        }
+        self.count as u16 + 1 == set_of(raster) as u16
+    }
+
+    // The runner past an exposure, with the mirror where it stands then.
+    fn past_exposure(mut self, mirror: u16) -> Stepped
+        requires { ⌜ (self .place + sizeOf 0x91 < 256) × (self .count < 255) ⌝ }
+        ensures { λ r. ⌜ r ≡ exposedAt (self .place + sizeOf 0x91) mirror self ⌝ }
+    {
+        let event = Event::Exp(self.mirror);
+        self.place = self.place + sequence::size_of(0x91);
+        self.count = self.count + 1;
+        self.mirror = mirror;
+        Stepped { event, runner: self }
+    }
+
+    // The exposure made in the raster at a place; where it fills the set and passes remain the mirror advances after it.
+    fn expose(self, text: &[u8], raster: Place) -> Stepped
+        requires { ⌜ (sizeAt (now text) (self .place) ≡ sizeOf 0x91) × (self .place + sizeOf 0x91 < 256) × (self .count < 255) ⌝ }
+        ensures { λ r. ⌜ r ≡ exposed (now (text .entry)) raster self ⌝ }
+    {
+        let words = sequence::raster_at(text, raster);
+        if !self.advances(words) {
+            return self.past_exposure(self.mirror);
+        }
+        let mirror = self.mirror as u32 + words.step as u32;
+        if (Runner::END_STOP as u32) < mirror {
+            return self.aborted(14, self.place);
+        }
+        self.past_exposure(mirror as u16)
+    }
+
+    // Another pass, another repeat, or the raster's end.
+    fn loop_back(mut self, text: &[u8], target: u8) -> Stepped
+        requires { ⌜ (sizeAt (now text) (self .place) ≡ sizeOf 0x92) × (self .place + sizeOf 0x92 < 256) ⌝ }
+        ensures { λ r. ⌜ r ≡ looped (now (text .entry)) target self ⌝ }
+    {
+        if 1 < self.passes {
+            self.place = target;
+            self.count = 0;
+            self.passes = self.passes - 1;
+            return Stepped {
+                event: Event::Loop(target),
+                runner: self,
+            };
+        }
+        if 1 < self.repeats {
+            self.place = self.raster;
+            self.repeats = self.repeats - 1;
+            return Stepped {
+                event: Event::Next,
+                runner: self,
+            };
+        }
+        self.place = self.place + sequence::size_of(0x92);
+        self.raster = Runner::NONE;
+        Stepped {
+            event: Event::Done,
+            runner: self,
+        }
+    }
+
+    // The delay shown.
+    fn delay(mut self, text: &[u8]) -> Stepped
+        requires { ⌜ (sizeAt (now text) (self .place) ≡ sizeOf 0x95) × (self .place + sizeOf 0x95 < 256) ⌝ }
+        ensures { λ r. ⌜ r ≡ delayed (now (text .entry)) self ⌝ }
+    {
+        let time = octets::word(text, self.place as usize + 1);
+        self.place = self.place + sequence::size_of(0x95);
+        Stepped {
+            event: Event::Wait(time),
+            runner: self,
+        }
+    }
+
+    // Another round of the sequence.
+    fn another(mut self) -> Stepped
+        requires { ⌜ 1 < self .rounds ⌝ }
+        ensures { λ r. ⌜ r ≡ another self ⌝ }
+    {
+        self.place = 4;
+        self.rounds = self.rounds - 1;
+        Stepped {
+            event: Event::Next,
+            runner: self,
+        }
+    }
+
+    // Another round, or the called sequence made the status sequence, to be entered next.
+    fn call(mut self, n: u8) -> Stepped
+        ensures { λ r. ⌜ r ≡ called 127 n self ⌝ }
+    {
+        if 1 < self.rounds {
+            return self.another();
+        }
+        if 127 < n {
+            return self.aborted(4, self.place);
+        }
+        self.sequence = n;
+        self.place = 0;
+        self.entering = true;
+        Stepped {
+            event: Event::Call(n),
+            runner: self,
+        }
+    }
+
+    // Another round, or the run's end.
+    fn terminate(mut self) -> Stepped
+        ensures { λ r. ⌜ r ≡ ended self ⌝ }
+    {
+        if 1 < self.rounds {
+            return self.another();
+        }
+        self.running = false;
+        Stepped {
+            event: Event::End,
+            runner: self,
+        }
+    }
+
+    // What the runner does with the judgement of the command at its place.
+    fn act(self, text: &[u8], lists: &[u8], at: Place, act: Act) -> Stepped
+        requires { ⌜ (at .0 ≡ self .place) × (act ≡ judge (envOf (now lists)) (now text) (self .place) (openOf self)) ⌝ }
+        ensures { λ r. ⌜ r ≡ act (envOf (now (lists .entry))) (now (text .entry)) self act ⌝ }
+    {
+        match act {
+            Act::Refused(code) => self.aborted(code, self.place),
+            Act::Opens => self.run_raster(text, at),
+            Act::Exposes(raster) => self.expose(text, raster),
+            Act::Loops(target) => self.loop_back(text, target),
+            Act::Waits => self.delay(text),
+            Act::Calls(n) => self.call(n),
+            Act::Ends => self.terminate(),
+        }
+    }
+
+    // The step in a text: entering, or the command at the place.
+    fn step_in(self, text: &[u8], lists: &[u8]) -> Stepped
+        requires { ⌜ length (now text) ≤ 128 ⌝ }
+        ensures { λ r. ⌜ r ≡ stepIn (envOf (now (lists .entry))) (now (text .entry)) self ⌝ }
+    {
+        if self.entering {
+            return self.enter(text);
+        }
+        match Place::of(self.place) {
+            Placed::Outside => self.aborted(3, self.place),
+            Placed::At(at) => self.act(text, lists, at, judge(text, lists, at, self.opened())),
+        }
+    }
+
+    // One step: idle when not running, else entering or one command.
+    pub fn step(self, seqs: &[u8], lists: &[u8]) -> Stepped
+        ensures { λ r. ⌜ r ≡ stepOf (envOf (now (lists .entry))) (now (seqs .entry)) self ⌝ }
+    {
+        if !self.running {
+            return Stepped {
+                event: Event::Idle,
+                runner: self,
+            };
+        }
+        self.step_in(memory::entry(seqs, self.sequence), lists)
+    }
+}
