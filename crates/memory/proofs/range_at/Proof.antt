@@ -1,3 +1,6 @@
+use mathlib.Core.Path.{sym, ap, _∙_}
+use Rattle.memory.specs.declared.Addressed.{Addressed}
+use Rattle.memory.specs.Memory.{rangeFrom, rangeAt}
 use borrow.Author.Needs.{needs}
 use Rattle.memory.proofs.range_at.Statement.{statement}
 use Rattle.memory.proofs.range_at.Tie as tie
@@ -24,11 +27,17 @@ range-requires c κs = search needs
 
 -- src/lib.rt:114:1
 returns : tie.Need-returns
-returns c = ?
+unfolding rangeAt
+returns c = 
+    let b = c .before .before in
+    ap (λ (x : Addressed). rangeFrom x (b .before .args .len)) (sym (c .enum-told .given .1) ∙ b .of .ensures)
 
 -- src/lib.rt:114:1
 returns-2 : tie.Need-returns-2
-returns-2 c = ?
+unfolding rangeAt
+returns-2 c = 
+    let b = c .before .before .before .before in
+    c .range .ensures ∙ ap (λ (x : Addressed). rangeFrom x (b .before .args .len)) (sym (c .before .before .found .given .1) ∙ b .of .ensures)
 
 pub range-at-spec : {M : Type 1} → statement M
 range-at-spec =

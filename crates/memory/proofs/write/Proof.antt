@@ -1,3 +1,4 @@
+use Rattle.memory.proofs.Laws.{unwritten, copied}
 use borrow.Author.Needs.{needs}
 use Rattle.memory.proofs.write.Statement.{statement}
 use Rattle.memory.proofs.write.Tie as tie
@@ -7,7 +8,7 @@ use Rattle.bytes.proofs.copy.Reads as copy-reads
 
 -- src/lib.rt:169:9
 returns : tie.Need-returns
-returns c = ?
+returns c = let a = c .before .before .before .args in unwritten (a .table .now) (a .at) (a .src .now) (search needs)
 
 -- src/lib.rt:171:8
 sub-if2 : tie.Need-sub-if2
@@ -15,7 +16,7 @@ sub-if2 c = search needs
 
 -- src/lib.rt:172:9
 returns-2 : tie.Need-returns-2
-returns-2 c = ?
+returns-2 c = let a = c .before .before .before .before .args in unwritten (a .table .now) (a .at) (a .src .now) (search needs)
 
 -- src/lib.rt:174:15
 add-end : tie.Need-add-end
@@ -43,7 +44,8 @@ same-length c = search needs
 
 -- src/lib.rt:165:1
 returns-3 : tie.Need-returns-3
-returns-3 c = ?
+returns-3 c = let a = c .before .before .before .before .before .before .before .before .args in
+    copied (a .table .now) (a .at) (a .src .now) _ (search needs) (c .before .before .copy .ensures .1)
 
 pub write-spec : {M : Type 1} → statement M
 write-spec =

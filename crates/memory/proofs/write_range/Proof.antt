@@ -1,3 +1,4 @@
+use mathlib.Core.Path.{refl}
 use borrow.Author.Needs.{needs}
 use Rattle.memory.proofs.write_range.Statement.{statement}
 use Rattle.memory.proofs.write_range.Tie as tie
@@ -30,7 +31,7 @@ same-length c = search needs
 
 -- src/lib.rt:179:1
 returns : tie.Need-returns
-returns c = ?
+returns c = rw (c .before .before .before .before .before .range .given .1) (c .before .before .write .ensures, refl)
 
 -- src/lib.rt:179:1
 same-length-2 : tie.Need-same-length-2
@@ -38,7 +39,7 @@ same-length-2 c = search needs
 
 -- src/lib.rt:179:1
 returns-2 : tie.Need-returns-2
-returns-2 c = ?
+returns-2 c = rw (c .before .before .before .before .before .range2 .given .1) (refl, c .before .before .write2 .ensures)
 
 -- src/lib.rt:179:1
 returns-3 : tie.Need-returns-3
