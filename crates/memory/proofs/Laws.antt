@@ -4,7 +4,7 @@ use native.Mathlib.Nat.{add-sub-cancel-left}
 use native.Mathlib.Omega.{arith}
 use mathlib.Core.Path.{_≡_, refl, sym, ap, _∙_}
 use mathlib.Core.Bool.{Bool, true, false, cond, not, _&&_, _||_, true≢false, false≢true}
-use mathlib.Core.List.{List, [], _∷_, _++_, append-nil}
+use mathlib.Core.List.{List, [], _++_, append-nil}
 use mathlib.Core.Logic.{_⊎_, ⊎-elim}
 use lib.Dec.{ltb, leb, eqb}
 use lib.ListN.{length, getD, take, drop, length-append, length-take, length-drop, drop-of-length-le, List·getD-append}
@@ -47,12 +47,15 @@ module _ (first size a len : ℕ) where
   pub has-room : first ≤ a → a - first ≤ size → leb len (size - (a - first)) ≡ within first size a len
   has-room h k = room h k (leb len (size - (a - first))) refl
 
-  -- what the test tells
-  pub from-first : within first size a len ≡ true → first ≤ a
-  from-first h = leb-true first a (both (leb first a) (leb (a + len) (first + size)) h .0)
+  inside : within first size a len ≡ true → a - first + len ≤ size
+  inside h =
+      let (p, q) = both (leb first a) (leb (a + len) (first + size)) h in
+      let l = leb-true first a p in
+      let u = leb-true (a + len) (first + size) q in omega arith
 
-  pub to-end : within first size a len ≡ true → a + len ≤ first + size
-  to-end h = leb-true (a + len) (first + size) (both (leb first a) (leb (a + len) (first + size)) h .1)
+-- an address that passed the test, whatever the table's end, has an offset
+pub has-offset : (first a : ℕ) (ends : Bool) → (leb first a && ends) ≡ true → first ≤ a
+has-offset first a ends h = leb-true first a (both (leb first a) ends h .0)
 
 -- a range is not empty and lies wholly in its table
 abbrev pub Fits : ℕ → Range → Type 0
@@ -66,9 +69,9 @@ of-fits a len =
     choice (Fits len) (eqb len 0 || ltb 16384 len) Wrong _ (λ _. tt)
     (λ n. let some = eqb-false len 0 (neither (eqb len 0) (ltb 16384 len) n .0) in
     choice (Fits len) (within 0x070000 16384 a len) (Sequences (a - 0x070000)) _
-    (λ h. let l = from-first 0x070000 16384 a len h in let u = to-end 0x070000 16384 a len h in (omega arith, omega arith))
+    (λ h. (inside 0x070000 16384 a len h, omega arith))
     (λ _. choice (Fits len) (within 0x074000 7872 a len) (LineLists (a - 0x074000)) Wrong
-    (λ h. let l = from-first 0x074000 7872 a len h in let u = to-end 0x074000 7872 a len h in (omega arith, omega arith))
+    (λ h. (inside 0x074000 7872 a len h, omega arith))
     (λ _. tt)))
 
 pub range-fits : (a len : ℕ) → Fits len (rangeAt a len)
@@ -123,19 +126,28 @@ in-second xs ys i h =
 spent : (n : ℕ) (x : List ℕ) → drop n (take n x) ≡ []
 spent n x = drop-of-length-le (take n x) {i = n} (simp length-take (omega arith))
 
+-- bytes laid over a table from an offset on
+abbrev pub laid : List ℕ → ℕ → List ℕ → List ℕ
+laid t at d = take at t ++ (d ++ drop (at + length d) t)
+
 module _ (t : List ℕ) (at : ℕ) (d : List ℕ) where
-  -- bytes that fit stand in the table, and those that do not are written nowhere
-  pub fitting : at + length d ≤ length t → written t at d ≡ take at t ++ (d ++ drop (at + length d) t)
+  -- bytes that fit are laid over the table, and those that do not are written nowhere
+  pub fitting : at + length d ≤ length t → written t at d ≡ laid t at d
   fitting h = simp (le-leb (at + length d) (length t) h)
 
   pub unwritten : length t < at + length d → t ≡ written t at d
   unwritten h = simp (lt-leb (at + length d) (length t) h)
 
+  -- what holds of the table with the bytes laid over it, where they fit, and of the table as it was, holds after a write
+  either : (P : List ℕ → Type 0) → (at + length d ≤ length t → P (laid t at d)) → P t → P (written t at d)
+  either P f g =
+      choice P (leb (at + length d) (length t)) (laid t at d) t
+      (λ h. f (leb-true (at + length d) (length t) h))
+      (λ _. g)
+
   pub written-length : length (written t at d) ≡ length t
   written-length =
-      choice (λ (x : List ℕ). length x ≡ length t) (leb (at + length d) (length t)) (take at t ++ (d ++ drop (at + length d) t)) t
-      (λ h. let k = leb-true (at + length d) (length t) h in simp (length-append, length-take, length-drop) (omega arith))
-      (λ _. refl)
+      either (λ (x : List ℕ). length x ≡ length t) (λ h. simp (length-append, length-take, length-drop) (omega arith)) refl
 
   -- a copy of d over the part of its length from at on leaves what a write leaves
   pub copied : (l : List ℕ) → at + length d ≤ length t
@@ -144,26 +156,33 @@ module _ (t : List ℕ) (at : ℕ) (d : List ℕ) where
   copied l h e =
       simp (e, add-sub-cancel-left at (length d), take-length d, spent (length d) (drop at t), append-nil, drop-drop) (sym (fitting h))
 
-  -- the byte at i: outside what was written the table's own, inside it the one that was written there
+  -- the bytes in front of, from the start of and behind the part that was written
+  module _ (i : ℕ) (h : at + length d ≤ length t) where
+    in-front : i < at → getD (laid t at d) i 0 ≡ getD t i 0
+    in-front w =
+        let n = length-take-le at t (omega arith) in
+        List·getD-append (take at t) (d ++ drop (at + length d) t) 0 i (omega arith) ∙ getD-take at t i 0 w
+
+    from-at : at ≤ i → getD (laid t at d) i 0 ≡ getD (d ++ drop (at + length d) t) (i - at) 0
+    from-at w =
+        let n = length-take-le at t (omega arith) in
+        in-second (take at t) (d ++ drop (at + length d) t) i (omega arith) ∙ ap (λ (m : ℕ). getD (d ++ drop (at + length d) t) (i - m) 0) n
+
+    behind : at + length d ≤ i → getD (laid t at d) i 0 ≡ getD t i 0
+    behind w =
+        let e : at + length d + (i - at - length d) ≡ i = omega arith in
+        from-at (omega arith)
+        ∙ in-second d (drop (at + length d) t) (i - at) (omega arith)
+        ∙ getD-drop (at + length d) t (i - at - length d) 0
+        ∙ ap (λ (m : ℕ). getD t m 0) e
+
+  -- outside what was written stand the table's own bytes, inside it those that were written
   pub written-other : (i : ℕ) → (i < at) ⊎ (at + length d ≤ i) → getD (written t at d) i 0 ≡ getD t i 0
   written-other i o =
-      choice (λ (x : List ℕ). getD x i 0 ≡ getD t i 0) (leb (at + length d) (length t)) (take at t ++ (d ++ drop (at + length d) t)) t
-      (λ h. let k = leb-true (at + length d) (length t) h in
-      let n = length-take-le at t (omega arith) in
-      ⊎-elim
-      (λ w. List·getD-append (take at t) (d ++ drop (at + length d) t) 0 i (omega arith) ∙ getD-take at t i 0 w)
-      (λ w. let e : at + length d + (i - length (take at t) - length d) ≡ i = omega arith in
-      in-second (take at t) (d ++ drop (at + length d) t) i (omega arith)
-      ∙ in-second d (drop (at + length d) t) (i - length (take at t)) (omega arith)
-      ∙ getD-drop (at + length d) t (i - length (take at t) - length d) 0
-      ∙ ap (λ (m : ℕ). getD t m 0) e)
-      o)
-      (λ _. refl)
+      either (λ (x : List ℕ). getD x i 0 ≡ getD t i 0) (λ h. ⊎-elim (in-front i h) (behind i h) o) refl
 
   pub written-same : (i : ℕ) → at + length d ≤ length t → at ≤ i → i < at + length d → getD (written t at d) i 0 ≡ getD d (i - at) 0
   written-same i h k w =
-      let n = length-take-le at t (omega arith) in
       ap (λ (x : List ℕ). getD x i 0) (fitting h)
-      ∙ in-second (take at t) (d ++ drop (at + length d) t) i (omega arith)
-      ∙ List·getD-append d (drop (at + length d) t) 0 (i - length (take at t)) (omega arith)
-      ∙ ap (λ (m : ℕ). getD d (i - m) 0) n
+      ∙ from-at i h k
+      ∙ List·getD-append d (drop (at + length d) t) 0 (i - at) (omega arith)

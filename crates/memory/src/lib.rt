@@ -1,7 +1,6 @@
 // The two tables in memory: places, addresses, ranges that lie wholly in one table, the part that a range shows and
 // the write of a packet's bytes into it.
 ghost use mathlib.Core.Path.{_≡_};
-ghost use lib.ListN.{length};
 ghost use Rattle.memory.specs.Memory.{placeOf, addressOf, rangeOf, rangeAt, within, isWrong, tablesWrong, windowCode, windowPart, written, seqsWritten, listsWritten, entryOf, listOf};
 
 // The sequence table: 128 entries of 128 bytes, from 0x070000.
@@ -101,7 +100,8 @@ impl Range {
     }
 }
 
-// Whether a length from an address lies in the table of a size at an address. No sum is made, so any length may be asked.
+// Whether a length from an address lies in the table of this size whose first address is given. No sum is made, so
+// no length is too long to ask.
 fn within(first: u32, size: usize, at: u32, len: usize) -> bool
     ensures { λ r. ⌜ r ≡ within first size at len ⌝ }
 {
@@ -163,7 +163,11 @@ pub fn window_code(seqs: &[u8], lists: &[u8], address: u32, len: usize) -> u8
     ensures { λ r. ⌜ r ≡ windowCode (now (seqs .entry)) (now (lists .entry)) address len ⌝ }
 {
     let range = range_at(address, len);
-    octets::refuse(tables_wrong(seqs, lists), 16, octets::refuse(range.is_wrong(), 7, 0))
+    octets::refuse(
+        tables_wrong(seqs, lists),
+        16,
+        octets::refuse(range.is_wrong(), 7, 0),
+    )
 }
 
 // The part that the desk asks for: the table's own bytes, or the empty part where the code is not 0.

@@ -1,67 +1,55 @@
+-- `Address::range` meets its contract: each way out rewrites with the tests that led there, and `within` told
+-- that no offset is negative. Assumes nothing.
 use borrow.Author.Tests.{eq-eqb, ne-eqb, lt-ltb, le-ltb}
 use mathlib.Core.Path.{sym, _∙_}
-use Rattle.memory.proofs.Laws.{from-first}
+use Rattle.memory.proofs.Laws.{has-offset}
 use Rattle.memory.specs.Memory.{rangeOf}
 use borrow.Author.Needs.{needs}
 use Rattle.memory.proofs.Address.range.Statement.{statement}
 use Rattle.memory.proofs.Address.range.Tie as tie
-use Rattle.memory.proofs.Address.range.Reads as reads
-use Rattle.memory.proofs.Address.range.Lts as lts
-use Rattle.memory.proofs.within.Reads as within-reads
 
--- src/lib.rt:125:13
 returns : tie.Need-returns
 unfolding rangeOf
 returns c = simp (eq-eqb _ _ (c .if1 .taken))
 
--- src/lib.rt:128:13
 returns-2 : tie.Need-returns-2
 unfolding rangeOf
 returns-2 c = simp (ne-eqb _ _ (c .before .if1 .left), lt-ltb _ _ (c .if2 .taken))
 
--- src/lib.rt:130:12
 within-requires : tie.Need-within-requires
 within-requires c κs = search needs
 
--- src/lib.rt:131:38
 sub-t6 : tie.Need-sub-t6
-sub-t6 c = from-first 0x070000 16384 _ _ (sym (c .before .within .ensures) ∙ c .if3 .taken)
+sub-t6 c = has-offset _ _ _ (sym (c .before .within .ensures) ∙ c .if3 .taken)
 
--- src/lib.rt:131:37
 cast-t7 : tie.Need-cast-t7
 cast-t7 c = search needs
 
--- src/lib.rt:131:13
 returns-3 : tie.Need-returns-3
 unfolding rangeOf
-returns-3 c = 
+returns-3 c =
     let b = c .before .before in
     simp (ne-eqb _ _ (b .before .if1 .left), le-ltb _ _ (b .if2 .left), ← c .before .within .ensures, c .if3 .taken)
 
--- src/lib.rt:133:12
 within-requires-2 : tie.Need-within-requires-2
 within-requires-2 c κs = search needs
 
--- src/lib.rt:134:38
 sub-t9 : tie.Need-sub-t9
-sub-t9 c = from-first 0x074000 7872 _ _ (sym (c .before .within2 .ensures) ∙ c .if4 .taken)
+sub-t9 c = has-offset _ _ _ (sym (c .before .within2 .ensures) ∙ c .if4 .taken)
 
--- src/lib.rt:134:37
 cast-t10 : tie.Need-cast-t10
 cast-t10 c = search needs
 
--- src/lib.rt:134:13
 returns-4 : tie.Need-returns-4
 unfolding rangeOf
-returns-4 c = 
+returns-4 c =
     let b = c .before .before in
     let d = b .before .before in
     simp (ne-eqb _ _ (d .before .if1 .left), le-ltb _ _ (d .if2 .left), ← b .before .within .ensures, b .if3 .left, ← c .before .within2 .ensures, c .if4 .taken)
 
--- src/lib.rt:120:5
 returns-5 : tie.Need-returns-5
 unfolding rangeOf
-returns-5 c = 
+returns-5 c =
     let b = c .before .before in
     let d = b .before .before in
     simp (ne-eqb _ _ (d .before .if1 .left), le-ltb _ _ (d .if2 .left), ← b .before .within .ensures, b .if3 .left, ← c .before .within2 .ensures, c .if4 .left)
