@@ -1,8 +1,7 @@
 // The two tables in memory: places, addresses, ranges that lie wholly in one table, the part that a range shows and
 // the write of a packet's bytes into it.
 ghost use mathlib.Core.Path.{_≡_};
-ghost use lib.ListN.{length};
-ghost use Rattle.memory.specs.Memory.{placeOf, addressOf, rangeOf, rangeAt, tablesWrong, windowCode, windowPart, written, seqsWritten, listsWritten, entryOf, listOf};
+ghost use Rattle.memory.specs.Memory.{placeOf, addressOf, rangeOf, rangeAt, within, isWrong, tablesWrong, windowCode, windowPart, written, seqsWritten, listsWritten, entryOf, listOf};
 
 // The sequence table: 128 entries of 128 bytes, from 0x070000.
 pub const SEQUENCES: usize = 128;
@@ -88,29 +87,51 @@ pub enum Range {
     Wrong,
 }
 
+impl Range {
+    // Whether the range is in no table.
+    fn is_wrong(self) -> bool
+        ensures { λ r. ⌜ r ≡ isWrong self ⌝ }
+    {
+        match self {
+            Range::Sequences(_) => false,
+            Range::LineLists(_) => false,
+            Range::Wrong => true,
+        }
+    }
+}
+
+// Whether a length from an address lies in the table of this size whose first address is given. No sum is made, so
+// no length is too long to ask.
+fn within(first: u32, size: usize, at: u32, len: usize) -> bool
+    ensures { λ r. ⌜ r ≡ within first size at len ⌝ }
+{
+    if at < first {
+        return false;
+    }
+    let offset = (at - first) as usize;
+    if size < offset {
+        return false;
+    }
+    len <= size - offset
+}
+
 impl Address {
     // The range of a length from this address.
     pub fn range(self, len: usize) -> Range
         ensures { λ r. ⌜ r ≡ rangeOf (self .0) len ⌝ }
     {
-        let at = self.0 as usize;
+        let at = self.0;
         if len == 0 {
             return Range::Wrong;
         }
         if LONGEST < len {
             return Range::Wrong;
         }
-        if at < 0x070000 {
-            return Range::Wrong;
+        if within(SEQUENCE_ADDRESS, SEQUENCE_TABLE, at, len) {
+            return Range::Sequences((at - SEQUENCE_ADDRESS) as usize);
         }
-        if at + len <= 0x074000 {
-            return Range::Sequences(at - 0x070000);
-        }
-        if at < 0x074000 {
-            return Range::Wrong;
-        }
-        if at + len <= 0x075EC0 {
-            return Range::LineLists(at - 0x074000);
+        if within(LINE_LIST_ADDRESS, LINE_LIST_TABLE, at, len) {
+            return Range::LineLists((at - LINE_LIST_ADDRESS) as usize);
         }
         Range::Wrong
     }
@@ -141,22 +162,19 @@ pub fn tables_wrong(seqs: &[u8], lists: &[u8]) -> bool
 pub fn window_code(seqs: &[u8], lists: &[u8], address: u32, len: usize) -> u8
     ensures { λ r. ⌜ r ≡ windowCode (now (seqs .entry)) (now (lists .entry)) address len ⌝ }
 {
-    if tables_wrong(seqs, lists) {
-        return 16;
-    }
     let range = range_at(address, len);
-    match range {
-        Range::Sequences(_) => 0,
-        Range::LineLists(_) => 0,
-        Range::Wrong => 7,
-    }
+    octets::refuse(
+        tables_wrong(seqs, lists),
+        16,
+        octets::refuse(range.is_wrong(), 7, 0),
+    )
 }
 
 // The part that the desk asks for: the table's own bytes, or the empty part where the code is not 0.
 pub fn window<'a>(seqs: &'a [u8], lists: &'a [u8], address: u32, len: usize) -> &'a [u8]
     ensures { λ r. ⌜ now r ≡ windowPart (now (seqs .entry)) (now (lists .entry)) address len ⌝ }
 {
-    if tables_wrong(seqs, lists) {
+    if window_code(seqs, lists, address, len) != 0 {
         return &seqs[..0];
     }
     let range = range_at(address, len);

@@ -1,34 +1,34 @@
+-- `range_at` meets its contract: each arm is `rangeFrom` at what `Address::of` found. Assumes nothing.
+use mathlib.Core.Path.{sym, ap, _∙_}
+use Rattle.memory.specs.declared.Addressed.{Addressed}
+use Rattle.memory.specs.Memory.{rangeFrom, rangeAt}
 use borrow.Author.Needs.{needs}
 use Rattle.memory.proofs.range_at.Statement.{statement}
 use Rattle.memory.proofs.range_at.Tie as tie
-use Rattle.memory.proofs.range_at.Reads as reads
-use Rattle.memory.proofs.range_at.Lts as lts
-use Rattle.memory.proofs.Address.of.Reads as of-reads
-use Rattle.memory.proofs.Address.range.Reads as range-reads
 
--- src/lib.rt:117:9
 of-requires : tie.Need-of-requires
 of-requires c κs = search needs
 
--- src/lib.rt:119:31
 enum-told : tie.Need-enum-told
 enum-told c = search needs
 
--- src/lib.rt:120:26
 enum-known-found : tie.Need-enum-known-found
 enum-known-found c = search needs
 
--- src/lib.rt:120:32
 range-requires : tie.Need-range-requires
 range-requires c κs = search needs
 
--- src/lib.rt:114:1
 returns : tie.Need-returns
-returns c = ?
+unfolding rangeAt
+returns c =
+    let b = c .before .before in
+    ap (λ (x : Addressed). rangeFrom x (b .before .args .len)) (sym (c .enum-told .given .1) ∙ b .of .ensures)
 
--- src/lib.rt:114:1
 returns-2 : tie.Need-returns-2
-returns-2 c = ?
+unfolding rangeAt
+returns-2 c =
+    let b = c .before .before .before .before in
+    c .range .ensures ∙ ap (λ (x : Addressed). rangeFrom x (b .before .args .len)) (sym (c .before .before .found .given .1) ∙ b .of .ensures)
 
 pub range-at-spec : {M : Type 1} → statement M
 range-at-spec =

@@ -1,69 +1,60 @@
+-- `window` meets its contract: the part is empty where the code is not 0, and each arm is `partOf` at its range. Assumes nothing.
+use mathlib.Core.Path.{_∙_}
+use Rattle.memory.proofs.Laws.{shown, hidden}
 use borrow.Author.Needs.{needs}
 use Rattle.memory.proofs.window.Statement.{statement}
 use Rattle.memory.proofs.window.Tie as tie
-use Rattle.memory.proofs.window.Reads as reads
-use Rattle.memory.proofs.window.Lts as lts
-use Rattle.memory.proofs.range_at.Reads as range-at-reads
-use Rattle.memory.proofs.tables_wrong.Reads as tables-wrong-reads
-use Rattle.octets.proofs.part.Reads as part-reads
 
--- src/lib.rt:153:8
-tables-wrong-requires : tie.Need-tables-wrong-requires
-tables-wrong-requires c κs = search needs
+window-code-requires : tie.Need-window-code-requires
+window-code-requires c κs = search needs
 
--- src/lib.rt:154:9
 slice-aggregate-result : tie.Need-slice-aggregate-result
 slice-aggregate-result c = search needs
 
--- src/lib.rt:154:9
 returns : tie.Need-returns
-returns c = ?
+returns c = hidden _ _ _ _ _ (c .before .before .window-code .ensures) (c .before .if1 .taken)
 
--- src/lib.rt:156:9
 range-at-requires : tie.Need-range-at-requires
 range-at-requires c κs = search needs
 
--- src/lib.rt:158:26
 enum-known-range : tie.Need-enum-known-range
 enum-known-range c = search needs
 
--- src/lib.rt:158:33
 part-requires : tie.Need-part-requires
 part-requires c κs = search needs
 
--- src/lib.rt:159:26
 enum-known-range-2 : tie.Need-enum-known-range-2
 enum-known-range-2 c = search needs
 
--- src/lib.rt:159:33
 part-requires-2 : tie.Need-part-requires-2
 part-requires-2 c κs = search needs
 
--- src/lib.rt:160:25
 enum-told : tie.Need-enum-told
 enum-told c = search needs
 
--- src/lib.rt:160:25
 slice-aggregate-result-2 : tie.Need-slice-aggregate-result-2
 slice-aggregate-result-2 c = search needs
 
--- src/lib.rt:150:1
 returns-2 : tie.Need-returns-2
-returns-2 c = ?
+returns-2 c =
+    let b = c .before .before .before .before in
+    c .part .ensures ∙ shown _ _ _ _ _ (b .before .before .window-code .ensures) _ _ (b .before .if1 .left) (b .range-at .ensures) (c .before .before .range .given .1)
 
--- src/lib.rt:150:1
 returns-3 : tie.Need-returns-3
-returns-3 c = ?
+returns-3 c =
+    let b = c .before .before .before .before in
+    c .part2 .ensures ∙ shown _ _ _ _ _ (b .before .before .window-code .ensures) _ _ (b .before .if1 .left) (b .range-at .ensures) (c .before .before .range2 .given .1)
 
--- src/lib.rt:150:1
 returns-4 : tie.Need-returns-4
-returns-4 c = ?
+returns-4 c =
+    let b = c .before .before .before in
+    shown _ _ _ _ _ (b .before .before .window-code .ensures) _ _ (b .before .if1 .left) (b .range-at .ensures) (c .before .enum-told .given .1)
 
 pub window-spec : {M : Type 1} → statement M
 window-spec =
     tie.close
     (tie.spec
-    tables-wrong-requires
+    window-code-requires
     slice-aggregate-result
     returns
     range-at-requires

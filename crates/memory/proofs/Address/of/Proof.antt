@@ -1,19 +1,16 @@
+-- `Address::of` meets its contract: each way out rewrites with its tests. Assumes nothing.
+use borrow.Author.Tests.{lt-ltb, le-ltb}
 use Rattle.memory.proofs.Address.of.Statement.{statement}
 use Rattle.memory.proofs.Address.of.Tie as tie
-use Rattle.memory.proofs.Address.of.Reads as reads
-use Rattle.memory.proofs.Address.of.Lts as lts
 
--- src/lib.rt:69:13
 returns : tie.Need-returns
-returns c = ?
+returns c = simp (lt-ltb _ _ (c .if1 .taken))
 
--- src/lib.rt:72:13
 returns-2 : tie.Need-returns-2
-returns-2 c = ?
+returns-2 c = simp (le-ltb _ _ (c .before .if1 .left), lt-ltb _ _ (c .if2 .taken))
 
--- src/lib.rt:65:5
 returns-3 : tie.Need-returns-3
-returns-3 c = ?
+returns-3 c = simp (le-ltb _ _ (c .before .if1 .left), le-ltb _ _ (c .if2 .left))
 
 pub of-spec : {M : Type 1} → statement M
 of-spec = tie.close (tie.spec returns returns-2 returns-3)

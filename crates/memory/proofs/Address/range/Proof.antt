@@ -1,60 +1,71 @@
+-- `Address::range` meets its contract: each way out rewrites with the tests that led there, and `within` told
+-- that no offset is negative. Assumes nothing.
+use borrow.Author.Tests.{eq-eqb, ne-eqb, lt-ltb, le-ltb}
+use mathlib.Core.Path.{sym, _∙_}
+use Rattle.memory.proofs.Laws.{has-offset}
+use Rattle.memory.specs.Memory.{rangeOf}
 use borrow.Author.Needs.{needs}
 use Rattle.memory.proofs.Address.range.Statement.{statement}
 use Rattle.memory.proofs.Address.range.Tie as tie
-use Rattle.memory.proofs.Address.range.Reads as reads
-use Rattle.memory.proofs.Address.range.Lts as lts
 
--- src/lib.rt:90:18
-cast-at : tie.Need-cast-at
-cast-at c = search needs
-
--- src/lib.rt:92:13
 returns : tie.Need-returns
-returns c = ?
+unfolding rangeOf
+returns c = simp (eq-eqb _ _ (c .if1 .taken))
 
--- src/lib.rt:95:13
 returns-2 : tie.Need-returns-2
-returns-2 c = ?
+unfolding rangeOf
+returns-2 c = simp (ne-eqb _ _ (c .before .if1 .left), lt-ltb _ _ (c .if2 .taken))
 
--- src/lib.rt:98:13
+within-requires : tie.Need-within-requires
+within-requires c κs = search needs
+
+sub-t6 : tie.Need-sub-t6
+sub-t6 c = has-offset _ _ _ (sym (c .before .within .ensures) ∙ c .if3 .taken)
+
+cast-t7 : tie.Need-cast-t7
+cast-t7 c = search needs
+
 returns-3 : tie.Need-returns-3
-returns-3 c = ?
+unfolding rangeOf
+returns-3 c =
+    let b = c .before .before in
+    simp (ne-eqb _ _ (b .before .if1 .left), le-ltb _ _ (b .if2 .left), ← c .before .within .ensures, c .if3 .taken)
 
--- src/lib.rt:100:12
-add-if4 : tie.Need-add-if4
-add-if4 c = search needs
+within-requires-2 : tie.Need-within-requires-2
+within-requires-2 c κs = search needs
 
--- src/lib.rt:101:13
+sub-t9 : tie.Need-sub-t9
+sub-t9 c = has-offset _ _ _ (sym (c .before .within2 .ensures) ∙ c .if4 .taken)
+
+cast-t10 : tie.Need-cast-t10
+cast-t10 c = search needs
+
 returns-4 : tie.Need-returns-4
-returns-4 c = ?
+unfolding rangeOf
+returns-4 c =
+    let b = c .before .before in
+    let d = b .before .before in
+    simp (ne-eqb _ _ (d .before .if1 .left), le-ltb _ _ (d .if2 .left), ← b .before .within .ensures, b .if3 .left, ← c .before .within2 .ensures, c .if4 .taken)
 
--- src/lib.rt:104:13
 returns-5 : tie.Need-returns-5
-returns-5 c = ?
-
--- src/lib.rt:106:12
-add-if6 : tie.Need-add-if6
-add-if6 c = search needs
-
--- src/lib.rt:107:13
-returns-6 : tie.Need-returns-6
-returns-6 c = ?
-
--- src/lib.rt:87:5
-returns-7 : tie.Need-returns-7
-returns-7 c = ?
+unfolding rangeOf
+returns-5 c =
+    let b = c .before .before in
+    let d = b .before .before in
+    simp (ne-eqb _ _ (d .before .if1 .left), le-ltb _ _ (d .if2 .left), ← b .before .within .ensures, b .if3 .left, ← c .before .within2 .ensures, c .if4 .left)
 
 pub range-spec : {M : Type 1} → statement M
 range-spec =
     tie.close
     (tie.spec
-    cast-at
     returns
     returns-2
+    within-requires
+    sub-t6
+    cast-t7
     returns-3
-    add-if4
+    within-requires-2
+    sub-t9
+    cast-t10
     returns-4
-    returns-5
-    add-if6
-    returns-6
-    returns-7)
+    returns-5)

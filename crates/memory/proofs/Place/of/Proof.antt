@@ -1,15 +1,13 @@
+-- `Place::of` meets its contract: each way out rewrites with its test. Assumes nothing.
+use borrow.Author.Tests.{lt-ltb, le-ltb}
 use Rattle.memory.proofs.Place.of.Statement.{statement}
 use Rattle.memory.proofs.Place.of.Tie as tie
-use Rattle.memory.proofs.Place.of.Reads as reads
-use Rattle.memory.proofs.Place.of.Lts as lts
 
--- src/lib.rt:36:5
 returns : tie.Need-returns
-returns c = ?
+returns c = simp (lt-ltb _ _ (c .if1 .taken))
 
--- src/lib.rt:36:5
 returns-2 : tie.Need-returns-2
-returns-2 c = ?
+returns-2 c = simp (le-ltb _ _ (c .if1 .left))
 
 pub of-spec : {M : Type 1} → statement M
 of-spec = tie.close (tie.spec returns returns-2)

@@ -1,0 +1,188 @@
+-- Laws of the tables: a range lies in its table, what a write leaves, how long an entry is. Assumes nothing.
+use Prim.Native.Nat.{ℕ, _+_, _*_, _-_, _≤_, _<_}
+use native.Mathlib.Nat.{add-sub-cancel-left}
+use native.Mathlib.Omega.{arith}
+use mathlib.Core.Path.{_≡_, refl, sym, ap, _∙_}
+use mathlib.Core.Bool.{Bool, true, false, cond, not, _&&_, _||_, true≢false, false≢true}
+use mathlib.Core.List.{List, [], _++_, append-nil}
+use mathlib.Core.Logic.{_⊎_, ⊎-elim}
+use lib.Dec.{ltb, leb, eqb}
+use lib.ListN.{length, getD, take, drop, length-append, length-take, length-drop, drop-of-length-le, List·getD-append}
+use lib.Seq.{take-length, drop-drop, length-take-le, getD-take, getD-drop, getD-append-add}
+use borrow.Author.Tests.{lt-leb, le-leb, eq-eqb, ne-eqb, leb-true, leb-false, eqb-true, eqb-false, not-false}
+use Rattle.memory.specs.declared.Addressed.{Addressed}
+use Rattle.memory.specs.declared.Addressed.the-variants.{Known, Nowhere}
+use Rattle.memory.specs.declared.Range.{Range}
+use Rattle.memory.specs.declared.Range.the-variants.{Sequences, LineLists, Wrong}
+use Rattle.memory.specs.Memory.{entryOf, listOf, tablesWrong, within, rangeOf, rangeFrom, rangeAt, partOf, windowCode, windowPart, written}
+
+-- ── tests
+both : (a b : Bool) → (a && b) ≡ true → (a ≡ true) × (b ≡ true)
+both true b e = (refl, e)
+both false b e = absurd (false≢true e)
+
+neither : (a b : Bool) → (a || b) ≡ false → (a ≡ false) × (b ≡ false)
+neither true b e = absurd (true≢false e)
+neither false b e = (refl, e)
+
+-- what holds of both outcomes of a test holds of the choice
+choice : {A : Type 0} (P : A → Type 0) (t : Bool) (a b : A) → (t ≡ true → P a) → (t ≡ false → P b) → P (cond t a b)
+choice P true a b f g = f refl
+choice P false a b f g = g refl
+
+-- ── ranges
+module _ (first size a len : ℕ) where
+  pub below-table : a < first → false ≡ within first size a len
+  below-table h = simp (lt-leb first a h)
+
+  pub past-table : first ≤ a → size < a - first → false ≡ within first size a len
+  past-table h k = simp (le-leb first a h, lt-leb (a + len) (first + size) (omega arith))
+
+  room : first ≤ a → a - first ≤ size → (t : Bool) → leb len (size - (a - first)) ≡ t → t ≡ within first size a len
+  room h k true e =
+      simp (le-leb first a h, le-leb (a + len) (first + size) (omega (arith, leb-true len (size - (a - first)) e)))
+  room h k false e =
+      simp (le-leb first a h, lt-leb (a + len) (first + size) (omega (arith, leb-false len (size - (a - first)) e)))
+
+  pub has-room : first ≤ a → a - first ≤ size → leb len (size - (a - first)) ≡ within first size a len
+  has-room h k = room h k (leb len (size - (a - first))) refl
+
+  inside : within first size a len ≡ true → a - first + len ≤ size
+  inside h =
+      let (p, q) = both (leb first a) (leb (a + len) (first + size)) h in
+      let l = leb-true first a p in
+      let u = leb-true (a + len) (first + size) q in omega arith
+
+-- an address that passed the test, whatever the table's end, has an offset
+pub has-offset : (first a : ℕ) (ends : Bool) → (leb first a && ends) ≡ true → first ≤ a
+has-offset first a ends h = leb-true first a (both (leb first a) ends h .0)
+
+-- a range is not empty and lies wholly in its table
+abbrev pub Fits : ℕ → Range → Type 0
+Fits len (Sequences at) = (at + len ≤ 16384) × (0 < len)
+Fits len (LineLists at) = (at + len ≤ 7872) × (0 < len)
+Fits len Wrong = Unit {0}
+
+of-fits : (a len : ℕ) → Fits len (rangeOf a len)
+unfolding rangeOf
+of-fits a len =
+    choice (Fits len) (eqb len 0 || ltb 16384 len) Wrong _ (λ _. tt)
+    (λ n. let some = eqb-false len 0 (neither (eqb len 0) (ltb 16384 len) n .0) in
+    choice (Fits len) (within 0x070000 16384 a len) (Sequences (a - 0x070000)) _
+    (λ h. (inside 0x070000 16384 a len h, omega arith))
+    (λ _. choice (Fits len) (within 0x074000 7872 a len) (LineLists (a - 0x074000)) Wrong
+    (λ h. (inside 0x074000 7872 a len h, omega arith))
+    (λ _. tt)))
+
+pub range-fits : (a len : ℕ) → Fits len (rangeAt a len)
+unfolding rangeAt
+range-fits a len =
+    let P : Addressed → Type 0 = λ x. Fits len (rangeFrom x len) in
+    choice P (ltb a 0x070000) Nowhere _ (λ _. tt)
+    (λ _. choice P (ltb a 0x075EC0) (Known (record { 0 = a })) Nowhere (λ _. of-fits a len) (λ _. tt))
+
+-- ── sizes
+pub sizes : (s l : List ℕ) → tablesWrong s l ≡ false → (length s ≡ 16384) × (length l ≡ 7872)
+unfolding tablesWrong
+sizes s l h =
+    let (p, q) = neither (not (eqb (length s) 16384)) (not (eqb (length l) 7872)) h in
+    (eqb-true (length s) 16384 (not-false (eqb (length s) 16384) p), eqb-true (length l) 7872 (not-false (eqb (length l) 7872) q))
+
+pub right-sizes : (s l : List ℕ) → length s ≡ 16384 → length l ≡ 7872 → tablesWrong s l ≡ false
+unfolding tablesWrong
+right-sizes s l p q = simp (eq-eqb (length s) 16384 p, eq-eqb (length l) 7872 q)
+
+-- ── the part that the desk asks for
+module _ (s l : List ℕ) (a len k : ℕ) (told : k ≡ windowCode s l a len) where
+  pub shown : (r v : Range) → k ≡ 0 → r ≡ rangeAt a len → r ≡ v → partOf s l len v ≡ windowPart s l a len
+  unfolding windowPart
+  shown r v z e w = simp (← told, z, ← e, w)
+
+  pub hidden : (k ≡ 0 → ⊥) → [] ≡ windowPart s l a len
+  unfolding windowPart
+  hidden n = simp (← told, ne-eqb k 0 n)
+
+-- ── entries
+part-length : (s : List ℕ) (at n : ℕ) → at + n ≤ length s → length (take n (drop at s)) ≡ n
+part-length s at n h = simp (length-take, length-drop) (omega arith)
+
+pub entry-length : (s : List ℕ) (n : ℕ) → length s ≡ 16384 → n < 128 → length (entryOf s n) ≡ 128
+entry-length s n l h = part-length s (n * 128) 128 (omega arith)
+
+pub list-length : (l : List ℕ) (n : ℕ) → length l ≡ 7872 → n < 48 → length (listOf l n) ≡ 164
+list-length l n k h = part-length l (n * 164) 164 (omega arith)
+
+pub entry-short : (s : List ℕ) (n : ℕ) → length (entryOf s n) ≤ 128
+entry-short s n = simp length-take (omega arith)
+
+-- ── writes
+-- the byte at a place of two lists, one after the other, past the first
+in-second : (xs ys : List ℕ) (i : ℕ) → length xs ≤ i → getD (xs ++ ys) i 0 ≡ getD ys (i - length xs) 0
+in-second xs ys i h =
+    let e : i ≡ length xs + (i - length xs) = omega arith in
+    ap (λ (k : ℕ). getD (xs ++ ys) k 0) e ∙ getD-append-add xs ys (i - length xs) 0
+
+-- nothing is left past a part's own length
+spent : (n : ℕ) (x : List ℕ) → drop n (take n x) ≡ []
+spent n x = drop-of-length-le (take n x) {i = n} (simp length-take (omega arith))
+
+-- bytes laid over a table from an offset on
+abbrev pub laid : List ℕ → ℕ → List ℕ → List ℕ
+laid t at d = take at t ++ (d ++ drop (at + length d) t)
+
+module _ (t : List ℕ) (at : ℕ) (d : List ℕ) where
+  -- bytes that fit are laid over the table, and those that do not are written nowhere
+  pub fitting : at + length d ≤ length t → written t at d ≡ laid t at d
+  fitting h = simp (le-leb (at + length d) (length t) h)
+
+  pub unwritten : length t < at + length d → t ≡ written t at d
+  unwritten h = simp (lt-leb (at + length d) (length t) h)
+
+  -- what holds of the table with the bytes laid over it, where they fit, and of the table as it was, holds after a write
+  either : (P : List ℕ → Type 0) → (at + length d ≤ length t → P (laid t at d)) → P t → P (written t at d)
+  either P f g =
+      choice P (leb (at + length d) (length t)) (laid t at d) t
+      (λ h. f (leb-true (at + length d) (length t) h))
+      (λ _. g)
+
+  pub written-length : length (written t at d) ≡ length t
+  written-length =
+      either (λ (x : List ℕ). length x ≡ length t) (λ h. simp (length-append, length-take, length-drop) (omega arith)) refl
+
+  -- a copy of d over the part of its length from at on leaves what a write leaves
+  pub copied : (l : List ℕ) → at + length d ≤ length t
+      → l ≡ take (length d) d ++ drop (length d) (take (at + length d - at) (drop at t))
+      → take at t ++ (l ++ drop (at + length d - at) (drop at t)) ≡ written t at d
+  copied l h e =
+      simp (e, add-sub-cancel-left at (length d), take-length d, spent (length d) (drop at t), append-nil, drop-drop) (sym (fitting h))
+
+  -- the bytes in front of, from the start of and behind the part that was written
+  module _ (i : ℕ) (h : at + length d ≤ length t) where
+    in-front : i < at → getD (laid t at d) i 0 ≡ getD t i 0
+    in-front w =
+        let n = length-take-le at t (omega arith) in
+        List·getD-append (take at t) (d ++ drop (at + length d) t) 0 i (omega arith) ∙ getD-take at t i 0 w
+
+    from-at : at ≤ i → getD (laid t at d) i 0 ≡ getD (d ++ drop (at + length d) t) (i - at) 0
+    from-at w =
+        let n = length-take-le at t (omega arith) in
+        in-second (take at t) (d ++ drop (at + length d) t) i (omega arith) ∙ ap (λ (m : ℕ). getD (d ++ drop (at + length d) t) (i - m) 0) n
+
+    behind : at + length d ≤ i → getD (laid t at d) i 0 ≡ getD t i 0
+    behind w =
+        let e : at + length d + (i - at - length d) ≡ i = omega arith in
+        from-at (omega arith)
+        ∙ in-second d (drop (at + length d) t) (i - at) (omega arith)
+        ∙ getD-drop (at + length d) t (i - at - length d) 0
+        ∙ ap (λ (m : ℕ). getD t m 0) e
+
+  -- outside what was written stand the table's own bytes, inside it those that were written
+  pub written-other : (i : ℕ) → (i < at) ⊎ (at + length d ≤ i) → getD (written t at d) i 0 ≡ getD t i 0
+  written-other i o =
+      either (λ (x : List ℕ). getD x i 0 ≡ getD t i 0) (λ h. ⊎-elim (in-front i h) (behind i h) o) refl
+
+  pub written-same : (i : ℕ) → at + length d ≤ length t → at ≤ i → i < at + length d → getD (written t at d) i 0 ≡ getD d (i - at) 0
+  written-same i h k w =
+      ap (λ (x : List ℕ). getD x i 0) (fitting h)
+      ∙ from-at i h k
+      ∙ List·getD-append d (drop (at + length d) t) 0 (i - at) (omega arith)
