@@ -1,0 +1,5 @@
+pub mod Turns
+pub mod Items
+pub mod Walk
+pub mod Chain
+pub mod Report

@@ -1,0 +1,5 @@
+pub mod State
+pub mod Packet
+pub mod Status
+pub mod Answer
+pub mod Step

@@ -1,0 +1,48 @@
+-- The unit's step: 16, then 17, then the runner's step, and what the status takes from its event.
+use Prim.Native.Nat.{ℕ}
+use mathlib.Core.Bool.{Bool, true, false, cond}
+use mathlib.Core.List.{List, [], _∷_}
+use lib.Dec.{eqb}
+use Rattle.octets.specs.Rows.{Row, row, firstCode}
+use Rattle.memory.specs.Memory.{tablesWrong}
+use Rattle.sequence.specs.Env.{envOf}
+use Rattle.runner.specs.declared.Event.{Event}
+use Rattle.runner.specs.declared.Event.the-variants.{Idle, Enter, Raster, Exp, Loop, Next, Done, Wait, Call, End, Abort}
+use Rattle.runner.specs.declared.Stepped.{Stepped}
+use Rattle.runner.specs.Step.{stepOf}
+use Rattle.unit.specs.declared.Watch.{Watch}
+use Rattle.unit.specs.declared.Unit.{Unit}
+use Rattle.unit.specs.declared.Outcome.{Outcome}
+use Rattle.unit.specs.declared.Outcome.the-variants.{Denied, Saw}
+use Rattle.unit.specs.declared.UnitStep.{UnitStep}
+use Rattle.unit.specs.State.{withWatch, withRunner, withList, withExposures, withAbort, outOfRange, counted}
+
+-- "the status takes the line list"; "exposures since AUTO, wrapping"; "an abort sets place and code"
+abbrev pub watched : Event → Watch → Watch
+watched Idle w = w
+watched (Enter s) w = w
+watched (Raster id pos list) w = withList list w
+watched (Exp pos) w = withExposures (counted (w .exposures)) w
+watched (Loop place) w = w
+watched Next w = w
+watched Done w = w
+watched (Wait t) w = w
+watched (Call s) w = w
+watched End w = w
+watched (Abort code s place) w = withAbort code w
+
+unfoldable pub stepRows : Unit → List ℕ → List ℕ → List Row
+stepRows u seqs lists = row 16 (tablesWrong seqs lists) ∷ row 17 (outOfRange u) ∷ []
+
+abbrev pub stepped : Outcome → Unit → UnitStep
+stepped o u = record { outcome = o; unit = u }
+
+-- the runner's step taken into the unit
+unfoldable pub taken : Unit → Stepped → UnitStep
+taken u r = stepped (Saw (r .event)) (withWatch (watched (r .event) (u .watch)) (withRunner (r .runner) u))
+
+abbrev pub unitStepBy : ℕ → Unit → Stepped → UnitStep
+unitStepBy code u r = cond (eqb code 0) (taken u r) (stepped (Denied code) u)
+
+unfoldable pub unitStep : Unit → List ℕ → List ℕ → UnitStep
+unitStep u seqs lists = unitStepBy (firstCode (stepRows u seqs lists)) u (stepOf (envOf lists) seqs (u .runner))
