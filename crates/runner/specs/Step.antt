@@ -1,5 +1,5 @@
 -- One interpreter step.
-use Prim.Native.Nat.{ℕ, _+_, _-_}
+use Prim.Native.Nat.{ℕ, _+_, _-_, _<_}
 use mathlib.Core.Bool.{Bool, true, false, cond, _&&_}
 use mathlib.Core.List.{List}
 use lib.Dec.{ltb, leb, eqb}
@@ -112,6 +112,16 @@ called last n s =
 -- "otherwise stop": "after END [the place is] the terminate's"
 unfoldable pub ended : Runner → Stepped
 ended s = cond (ltb 1 (s .rounds)) (another s) (to End (withRunning false s))
+
+-- a set never holds more than 8 exposures, so one more is a byte's number: what an act asks of the runner
+abbrev pub Room : Runner → Act → Type 0
+Room s (Refused code) = Unit {0}
+Room s Opens = Unit {0}
+Room s (Exposes r) = s .count < 255
+Room s (Loops t) = Unit {0}
+Room s Waits = Unit {0}
+Room s (Calls n) = Unit {0}
+Room s Ends = Unit {0}
 
 -- what the runner does with a judgement
 unfoldable pub act : Env → List ℕ → Runner → Act → Stepped

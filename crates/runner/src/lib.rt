@@ -1,14 +1,12 @@
 // The interpreter: what the command at a place comes to, and what one step does with it.
 ghost use mathlib.Core.Path.{_≡_};
-ghost use Prim.Native.Nat.{_+_, _<_, _≤_};
+ghost use Prim.Native.Nat.{_<_, _≤_};
 ghost use lib.ListN.{length};
 ghost use Rattle.octets.specs.Rows.{firstCode};
-ghost use Rattle.memory.specs.Memory.{entryOf};
-ghost use Rattle.sequence.specs.Text.{sizeOf, sizeAt};
-ghost use Rattle.sequence.specs.Raster.{rasterAt, reachOf};
-ghost use Rattle.sequence.specs.Env.{envOf};
+ghost use Rattle.sequence.specs.Raster.{reachOf};
+ghost use Rattle.sequence.specs.Env.{Env, envOf};
 ghost use Rattle.runner.specs.Judge.{isOpen, openElsewhere, isRunRaster, setOf, full, listBad, pathRows, rasterRows, runRows, exposeRows, loopRows, closeRows, unless, exposesIn, judge};
-ghost use Rattle.runner.specs.Step.{openOf, aborted, entered, begun, advances, exposedAt, exposed, looped, delayed, another, called, ended, act, stepIn, stepOf};
+ghost use Rattle.runner.specs.Step.{openOf, aborted, entered, begun, advances, exposedAt, exposed, looped, delayed, another, called, ended, Room, act, stepIn, stepOf};
 use memory::Place;
 use memory::Placed;
 use sequence::Command;
@@ -269,16 +267,14 @@ fn judge_loop(text: &[u8], at: Place, target: u8, open: Opened) -> Act
     }
 }
 
-// The code with which a call or terminate of this size is refused, or 0.
-fn close_fault(text: &[u8], at: Place, size: u8, open: Opened) -> u8
-    requires { ⌜ size ≡ sizeAt (now text) (at .0) ⌝ }
+// The code with which a call or terminate is refused, or 0.
+fn close_fault(text: &[u8], at: Place, open: Opened) -> u8
     ensures { λ r. ⌜ r ≡ firstCode (closeRows (now (text .entry)) (at .0) open) ⌝ }
 {
-    let end = at.number() as usize + size as usize;
     octets::refuse(
         open.is_open(),
         3,
-        octets::refuse(end != sequence::limit(text) as usize, 3, 0),
+        octets::refuse(sequence::past(text, at) != sequence::limit(text), 3, 0),
     )
 }
 
@@ -291,8 +287,8 @@ pub fn judge(text: &[u8], lists: &[u8], at: Place, open: Opened) -> Act
         Command::RunRaster => unless(run_fault(text, lists, at, open), Act::Opens),
         Command::Expose(time) => judge_expose(text, time, open),
         Command::LoopBack(target) => judge_loop(text, at, target, open),
-        Command::CallSequence(n) => unless(close_fault(text, at, sequence::size_of(0x93), open), Act::Calls(n)),
-        Command::Terminate => unless(close_fault(text, at, sequence::size_of(0x94), open), Act::Ends),
+        Command::CallSequence(n) => unless(close_fault(text, at, open), Act::Calls(n)),
+        Command::Terminate => unless(close_fault(text, at, open), Act::Ends),
         Command::Delay(_) => Act::Waits,
         Command::Nothing => Act::Refused(3),
         Command::Unknown => Act::Refused(3),
@@ -347,18 +343,16 @@ impl Runner {
 
     // The run raster at a place begun: its first repeat, or the next.
     fn run_raster(mut self, text: &[u8], at: Place) -> Stepped
-        requires { ⌜ (at .0 ≡ self .place) × (sizeAt (now text) (self .place) ≡ sizeOf 0x90) × (self .place + sizeOf 0x90 < 256) ⌝ }
+        requires { ⌜ at .0 ≡ self .place ⌝ }
         ensures { λ r. ⌜ r ≡ begun (now (text .entry)) self ⌝ }
     {
         let raster = sequence::raster_at(text, at);
-        let reopened = self.opened().is_open();
-        self.raster = self.place;
-        self.place = self.place + sequence::size_of(0x90);
+        let repeats = if self.opened().is_open() { self.repeats } else { raster.repeats };
+        self.raster = at.number();
+        self.place = sequence::past(text, at);
         self.count = 0;
         self.passes = raster.loops;
-        if !reopened {
-            self.repeats = raster.repeats;
-        }
+        self.repeats = repeats;
         self.mirror = raster.initial;
         Stepped {
             event: Event::Raster(raster.id, raster.initial, raster.list),
@@ -376,37 +370,38 @@ impl Runner {
         self.count as u16 + 1 == set_of(raster) as u16
     }
 
-    // The runner past an exposure, with the mirror where it stands then.
-    fn past_exposure(mut self, mirror: u16) -> Stepped
-        requires { ⌜ (self .place + sizeOf 0x91 < 256) × (self .count < 255) ⌝ }
-        ensures { λ r. ⌜ r ≡ exposedAt (self .place + sizeOf 0x91) mirror self ⌝ }
+    // The runner past an exposure, at the next place, with the mirror where it stands then.
+    fn past_exposure(mut self, next: u8, mirror: u16) -> Stepped
+        requires { ⌜ self .count < 255 ⌝ }
+        ensures { λ r. ⌜ r ≡ exposedAt next mirror self ⌝ }
     {
         let event = Event::Exp(self.mirror);
-        self.place = self.place + sequence::size_of(0x91);
+        self.place = next;
         self.count = self.count + 1;
         self.mirror = mirror;
         Stepped { event, runner: self }
     }
 
-    // The exposure made in the raster at a place; where it fills the set and passes remain the mirror advances after it.
-    fn expose(self, text: &[u8], raster: Place) -> Stepped
-        requires { ⌜ (sizeAt (now text) (self .place) ≡ sizeOf 0x91) × (self .place + sizeOf 0x91 < 256) × (self .count < 255) ⌝ }
+    // The exposure at a place made, in the raster at another; where it fills the set and passes remain the mirror advances after it.
+    fn expose(self, text: &[u8], at: Place, raster: Place) -> Stepped
+        requires { ⌜ (at .0 ≡ self .place) × (self .count < 255) ⌝ }
         ensures { λ r. ⌜ r ≡ exposed (now (text .entry)) raster self ⌝ }
     {
         let words = sequence::raster_at(text, raster);
+        let next = sequence::past(text, at);
         if !self.advances(words) {
-            return self.past_exposure(self.mirror);
+            return self.past_exposure(next, self.mirror);
         }
         let mirror = self.mirror as u32 + words.step as u32;
         if (Runner::END_STOP as u32) < mirror {
             return self.aborted(14, self.place);
         }
-        self.past_exposure(mirror as u16)
+        self.past_exposure(next, mirror as u16)
     }
 
     // Another pass, another repeat, or the raster's end.
-    fn loop_back(mut self, text: &[u8], target: u8) -> Stepped
-        requires { ⌜ (sizeAt (now text) (self .place) ≡ sizeOf 0x92) × (self .place + sizeOf 0x92 < 256) ⌝ }
+    fn loop_back(mut self, text: &[u8], at: Place, target: u8) -> Stepped
+        requires { ⌜ at .0 ≡ self .place ⌝ }
         ensures { λ r. ⌜ r ≡ looped (now (text .entry)) target self ⌝ }
     {
         if 1 < self.passes {
@@ -426,7 +421,7 @@ impl Runner {
                 runner: self,
             };
         }
-        self.place = self.place + sequence::size_of(0x92);
+        self.place = sequence::past(text, at);
         self.raster = Runner::NONE;
         Stepped {
             event: Event::Done,
@@ -434,13 +429,13 @@ impl Runner {
         }
     }
 
-    // The delay shown.
-    fn delay(mut self, text: &[u8]) -> Stepped
-        requires { ⌜ (sizeAt (now text) (self .place) ≡ sizeOf 0x95) × (self .place + sizeOf 0x95 < 256) ⌝ }
+    // The delay at a place shown.
+    fn delay(mut self, text: &[u8], at: Place) -> Stepped
+        requires { ⌜ at .0 ≡ self .place ⌝ }
         ensures { λ r. ⌜ r ≡ delayed (now (text .entry)) self ⌝ }
     {
-        let time = octets::word(text, self.place as usize + 1);
-        self.place = self.place + sequence::size_of(0x95);
+        let time = octets::word(text, at.number() as usize + 1);
+        self.place = sequence::past(text, at);
         Stepped {
             event: Event::Wait(time),
             runner: self,
@@ -494,16 +489,16 @@ impl Runner {
     }
 
     // What the runner does with the judgement of the command at its place.
-    fn act(self, text: &[u8], lists: &[u8], at: Place, act: Act) -> Stepped
-        requires { ⌜ (at .0 ≡ self .place) × (act ≡ judge (envOf (now lists)) (now text) (self .place) (openOf self)) ⌝ }
-        ensures { λ r. ⌜ r ≡ act (envOf (now (lists .entry))) (now (text .entry)) self act ⌝ }
+    fn act(self, text: &[u8], at: Place, act: Act) -> Stepped
+        requires { ⌜ (at .0 ≡ self .place) × Room self act ⌝ }
+        ensures { λ r. ⌜ ((E : Env) → E .last ≡ 127 → r ≡ act E (now (text .entry)) self act) ⌝ }
     {
         match act {
             Act::Refused(code) => self.aborted(code, self.place),
             Act::Opens => self.run_raster(text, at),
-            Act::Exposes(raster) => self.expose(text, raster),
-            Act::Loops(target) => self.loop_back(text, target),
-            Act::Waits => self.delay(text),
+            Act::Exposes(raster) => self.expose(text, at, raster),
+            Act::Loops(target) => self.loop_back(text, at, target),
+            Act::Waits => self.delay(text, at),
             Act::Calls(n) => self.call(n),
             Act::Ends => self.terminate(),
         }
@@ -519,7 +514,7 @@ impl Runner {
         }
         match Place::of(self.place) {
             Placed::Outside => self.aborted(3, self.place),
-            Placed::At(at) => self.act(text, lists, at, judge(text, lists, at, self.opened())),
+            Placed::At(at) => self.act(text, at, judge(text, lists, at, self.opened())),
         }
     }
 
