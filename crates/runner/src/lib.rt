@@ -1,8 +1,9 @@
 // The interpreter: what the command at a place comes to, and what one step does with it.
 ghost use mathlib.Core.Path.{_≡_};
-ghost use Prim.Native.Nat.{_<_, _≤_};
+ghost use Prim.Native.Nat.{_+_, _<_, _≤_};
 ghost use lib.ListN.{length};
 ghost use Rattle.octets.specs.Rows.{firstCode};
+ghost use Rattle.sequence.specs.Text.{sizeAt};
 ghost use Rattle.sequence.specs.Raster.{reachOf};
 ghost use Rattle.sequence.specs.Env.{Env, envOf};
 ghost use Rattle.runner.specs.Judge.{isOpen, openElsewhere, isRunRaster, setOf, full, listBad, pathRows, rasterRows, runRows, exposeRows, loopRows, closeRows, unless, exposesIn, judge};
@@ -274,7 +275,7 @@ fn close_fault(text: &[u8], at: Place, open: Opened) -> u8
     octets::refuse(
         open.is_open(),
         3,
-        octets::refuse(sequence::past(text, at) != sequence::limit(text), 3, 0),
+        octets::refuse(sequence::past(text, at) != sequence::limit(text) as usize, 3, 0),
     )
 }
 
@@ -294,6 +295,14 @@ pub fn judge(text: &[u8], lists: &[u8], at: Place, open: Opened) -> Act
         Command::Unknown => Act::Refused(3),
         Command::Unfit => Act::Refused(3),
     }
+}
+
+// The place past the command at a place, in an entry's text.
+fn next_place(text: &[u8], at: Place) -> u8
+    requires { ⌜ length (now text) ≤ 128 ⌝ }
+    ensures { λ r. ⌜ r ≡ at .0 + sizeAt (now (text .entry)) (at .0) ⌝ }
+{
+    sequence::past(text, at) as u8
 }
 
 impl Runner {
@@ -343,13 +352,13 @@ impl Runner {
 
     // The run raster at a place begun: its first repeat, or the next.
     fn run_raster(mut self, text: &[u8], at: Place) -> Stepped
-        requires { ⌜ at .0 ≡ self .place ⌝ }
+        requires { ⌜ (at .0 ≡ self .place) × (length (now text) ≤ 128) ⌝ }
         ensures { λ r. ⌜ r ≡ begun (now (text .entry)) self ⌝ }
     {
         let raster = sequence::raster_at(text, at);
         let repeats = if self.opened().is_open() { self.repeats } else { raster.repeats };
         self.raster = at.number();
-        self.place = sequence::past(text, at);
+        self.place = next_place(text, at);
         self.count = 0;
         self.passes = raster.loops;
         self.repeats = repeats;
@@ -384,11 +393,11 @@ impl Runner {
 
     // The exposure at a place made, in the raster at another; where it fills the set and passes remain the mirror advances after it.
     fn expose(self, text: &[u8], at: Place, raster: Place) -> Stepped
-        requires { ⌜ (at .0 ≡ self .place) × (self .count < 255) ⌝ }
+        requires { ⌜ (at .0 ≡ self .place) × (length (now text) ≤ 128) × (self .count < 255) ⌝ }
         ensures { λ r. ⌜ r ≡ exposed (now (text .entry)) raster self ⌝ }
     {
         let words = sequence::raster_at(text, raster);
-        let next = sequence::past(text, at);
+        let next = next_place(text, at);
         if !self.advances(words) {
             return self.past_exposure(next, self.mirror);
         }
@@ -401,7 +410,7 @@ impl Runner {
 
     // Another pass, another repeat, or the raster's end.
     fn loop_back(mut self, text: &[u8], at: Place, target: u8) -> Stepped
-        requires { ⌜ at .0 ≡ self .place ⌝ }
+        requires { ⌜ (at .0 ≡ self .place) × (length (now text) ≤ 128) ⌝ }
         ensures { λ r. ⌜ r ≡ looped (now (text .entry)) target self ⌝ }
     {
         if 1 < self.passes {
@@ -421,7 +430,7 @@ impl Runner {
                 runner: self,
             };
         }
-        self.place = sequence::past(text, at);
+        self.place = next_place(text, at);
         self.raster = Runner::NONE;
         Stepped {
             event: Event::Done,
@@ -431,11 +440,11 @@ impl Runner {
 
     // The delay at a place shown.
     fn delay(mut self, text: &[u8], at: Place) -> Stepped
-        requires { ⌜ at .0 ≡ self .place ⌝ }
+        requires { ⌜ (at .0 ≡ self .place) × (length (now text) ≤ 128) ⌝ }
         ensures { λ r. ⌜ r ≡ delayed (now (text .entry)) self ⌝ }
     {
         let time = octets::word(text, at.number() as usize + 1);
-        self.place = sequence::past(text, at);
+        self.place = next_place(text, at);
         Stepped {
             event: Event::Wait(time),
             runner: self,
@@ -490,7 +499,7 @@ impl Runner {
 
     // What the runner does with the judgement of the command at its place.
     fn act(self, text: &[u8], at: Place, act: Act) -> Stepped
-        requires { ⌜ (at .0 ≡ self .place) × Room self act ⌝ }
+        requires { ⌜ (at .0 ≡ self .place) × (length (now text) ≤ 128) × Room self act ⌝ }
         ensures { λ r. ⌜ ((E : Env) → E .last ≡ 127 → r ≡ act E (now (text .entry)) self act) ⌝ }
     {
         match act {

@@ -1,0 +1,11 @@
+use Rattle.runner.proofs.Runner.aborted.Statement.{statement}
+use Rattle.runner.proofs.Runner.aborted.Tie as tie
+use Rattle.runner.proofs.Runner.aborted.Reads as reads
+use Rattle.runner.proofs.Runner.aborted.Lts as lts
+
+-- src/lib.rt:326:5
+returns : tie.Need-returns
+returns c = ?
+
+pub aborted-spec : {M : Type 1} → statement M
+aborted-spec = tie.close (tie.spec returns)

@@ -1,0 +1,29 @@
+use borrow.Author.Needs.{needs}
+use Rattle.runner.proofs.Runner.opened.Statement.{statement}
+use Rattle.runner.proofs.Runner.opened.Tie as tie
+use Rattle.runner.proofs.Runner.opened.Reads as reads
+use Rattle.runner.proofs.Runner.opened.Lts as lts
+use Rattle.memory.proofs.Place.of.Reads as of-reads
+
+-- src/lib.rt:319:15
+of-requires : tie.Need-of-requires
+of-requires c κs = search needs
+
+-- src/lib.rt:320:24
+enum-known-raster : tie.Need-enum-known-raster
+enum-known-raster c = search needs
+
+-- src/lib.rt:321:32
+enum-told : tie.Need-enum-told
+enum-told c = search needs
+
+-- src/lib.rt:316:5
+returns : tie.Need-returns
+returns c = ?
+
+-- src/lib.rt:316:5
+returns-2 : tie.Need-returns-2
+returns-2 c = ?
+
+pub opened-spec : {M : Type 1} → statement M
+opened-spec = tie.close (tie.spec of-requires enum-known-raster enum-told returns returns-2)

@@ -1,0 +1,15 @@
+use Rattle.runner.proofs.set_of.Statement.{statement}
+use Rattle.runner.proofs.set_of.Tie as tie
+use Rattle.runner.proofs.set_of.Reads as reads
+use Rattle.runner.proofs.set_of.Lts as lts
+
+-- src/lib.rt:130:1
+returns : tie.Need-returns
+returns c = ?
+
+-- src/lib.rt:130:1
+returns-2 : tie.Need-returns-2
+returns-2 c = ?
+
+pub set-of-spec : {M : Type 1} → statement M
+set-of-spec = tie.close (tie.spec returns returns-2)

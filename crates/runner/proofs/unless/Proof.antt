@@ -1,0 +1,15 @@
+use Rattle.runner.proofs.unless.Statement.{statement}
+use Rattle.runner.proofs.unless.Tie as tie
+use Rattle.runner.proofs.unless.Reads as reads
+use Rattle.runner.proofs.unless.Lts as lts
+
+-- src/lib.rt:84:1
+returns : tie.Need-returns
+returns c = ?
+
+-- src/lib.rt:84:1
+returns-2 : tie.Need-returns-2
+returns-2 c = ?
+
+pub unless-spec : {M : Type 1} → statement M
+unless-spec = tie.close (tie.spec returns returns-2)

@@ -1,0 +1,183 @@
+-- Laws of a text: where commands stand, and what their bytes say. They stand on the definitions of specs/ alone.
+-- Assumes nothing.
+use Prim.Native.Nat.{ℕ, zero, suc, _+_, _-_, _≤_, _<_}
+use native.Mathlib.Nat.{sub-zero}
+use native.Mathlib.Omega.{arith}
+use mathlib.Core.Path.{_≡_, refl, sym, _∙_, subst}
+use mathlib.Core.Bool.{Bool, true, false, cond, not, _&&_, _||_, true≢false, false≢true}
+use mathlib.Core.List.{List, [], _∷_, _++_}
+use mathlib.Core.Logic.{_⊎_, ⊎-elim, inl, inr}
+use lib.Dec.{ltb, leb, eqb}
+use lib.ListN.{length, take, drop}
+use lib.Seq.{take-nil}
+use borrow.Author.Tests.{ltb-false, leb-true, leb-false, eqb-true, not-false, eq-eqb, ne-eqb}
+use Rattle.octets.specs.Bytes.{byteAt, wordAt, xorOn, xorOf}
+use Rattle.octets.proofs.Laws.{xor-append}
+use Rattle.sequence.specs.declared.Command.{Command}
+use Rattle.sequence.specs.declared.Command.the-variants.{RunRaster, Expose, LoopBack, CallSequence, Terminate, Delay, Nothing, Unknown, Unfit}
+use Rattle.sequence.specs.Text.{limit, lengthGood, numberOf, sizeOf, ofNumber, decoded, noneThere, commandAt, sizeAt}
+use Rattle.sequence.specs.Starts.{starts}
+
+-- ── tests joined
+pub and-both : (a b : Bool) → (a && b) ≡ true → (a ≡ true) × (b ≡ true)
+and-both true b e = (refl, e)
+and-both false b e = absurd (false≢true e)
+
+pub or-neither : (a b : Bool) → (a || b) ≡ false → (a ≡ false) × (b ≡ false)
+or-neither true b e = absurd (true≢false e)
+or-neither false b e = (refl, e)
+
+pub by-test : {A : Type 0} (t : Bool) → (t ≡ true → A) → (t ≡ false → A) → A
+by-test true f g = f refl
+by-test false f g = g refl
+
+-- ── the checksum's place
+pub limit-below : (text : List ℕ) → lengthGood text ≡ true → limit text < length text
+unfolding lengthGood limit
+limit-below text e =
+    let (a, b) = and-both (leb 6 (byteAt text 0)) (leb (byteAt text 0) (length text)) e in
+    omega (arith, leb-true 6 (byteAt text 0) a, leb-true (byteAt text 0) (length text) b)
+
+-- ── where a command can stand
+-- so many bytes from p on lie among the commands
+pub record Whole (text : List ℕ) (p size : ℕ) : Type 0 where
+  pub from : 4 ≤ p
+  pub fits : p + size ≤ limit text
+  pub inside : limit text < length text
+
+pub some-there : (text : List ℕ) (p : ℕ) → noneThere text p ≡ false → Whole text p 1
+unfolding noneThere
+some-there text p e =
+    let (a, r) = or-neither (ltb p 4) (not (lengthGood text) || leb (limit text) p) e in
+    let (g, l) = or-neither (not (lengthGood text)) (leb (limit text) p) r in
+    record { from = ltb-false p 4 a; fits = omega (arith, leb-false (limit text) p l); inside = limit-below text (not-false (lengthGood text) g) }
+
+pub none-past : (text : List ℕ) (p : ℕ) → length text ≤ p → commandAt text p ≡ Nothing
+unfolding commandAt
+none-past text p h = by-test (noneThere text p) (λ e. rw e) (λ e. let w = some-there text p e in absurd (omega arith))
+
+-- ── the command of a number
+-- what is shown of each of these commands, from its number
+abbrev pub Each : (Command → Type 0) → ℕ → List Command → Type 0
+Each P n [] = Unit {0}
+Each P n (k ∷ ks) = (n ≡ numberOf k → P k) × Each P n ks
+
+-- the six commands, each with the operand that stands after this place
+abbrev pub six : List ℕ → ℕ → List Command
+six text p =
+    RunRaster
+    ∷ Expose (wordAt text (p + 1))
+    ∷ LoopBack (byteAt text (p + 1))
+    ∷ CallSequence (byteAt text (p + 1))
+    ∷ Terminate
+    ∷ Delay (wordAt text (p + 1))
+    ∷ []
+
+module _ (P : Command → Type 0) where
+  each : (n : ℕ) (ks : List Command) → ((k : Command) → n ≡ numberOf k → P k) → Each P n ks
+  each n [] f = tt
+  each n (k ∷ ks) f = (f k, each n ks f)
+
+  of-number : (n : ℕ) (ks : List Command) → P Unknown → Each P n ks → P (ofNumber n ks)
+  of-number n [] u e = u
+  of-number n (k ∷ ks) u (f, e) = choose (eqb n (numberOf k)) (λ t. f (eqb-true n (numberOf k) t)) (of-number n ks u e)
+    where
+      choose : {j : Command} (t : Bool) → (t ≡ true → P k) → P j → P (cond t k j)
+      choose true x y = x refl
+      choose false x y = y
+
+  ways : (n u x : Bool) (k : Command) → P Nothing → P Unknown → P Unfit → (n ≡ false → x ≡ false → P k)
+      → P (cond n Nothing (cond u Unknown (cond x Unfit k)))
+  ways true u x k a b c d = a
+  ways false true x k a b c d = b
+  ways false false true k a b c d = c
+  ways false false false k a b c d = d refl refl
+
+  -- what holds where no whole command stands, and of each command that stands whole, holds of what stands at a place
+  pub of-command : (text : List ℕ) (p : ℕ) → P Nothing → P Unknown → P Unfit
+      → (Whole text p (sizeOf (byteAt text p)) → Each P (byteAt text p) (six text p)) → P (commandAt text p)
+  unfolding commandAt decoded
+  of-command text p a b c d =
+      let n = byteAt text p in
+      ways (noneThere text p) (eqb (sizeOf n) 0) (ltb (limit text) (p + sizeOf n)) (decoded text p) a b c
+      (λ e f. of-number n (six text p) b (let w = some-there text p e in d record { from = w .from; fits = ltb-false (limit text) (p + sizeOf n) f; inside = w .inside }))
+
+-- none of the six commands has this number
+abbrev pub Strange : ℕ → Type 0
+Strange n = (((((Unit {0} × (n ≡ 0x90 → ⊥)) × (n ≡ 0x91 → ⊥)) × (n ≡ 0x92 → ⊥)) × (n ≡ 0x93 → ⊥)) × (n ≡ 0x94 → ⊥)) × (n ≡ 0x95 → ⊥)
+
+pub size-strange : (n : ℕ) → Strange n → 0 ≡ sizeOf n
+unfolding sizeOf
+size-strange n ((((((u, a), b), c), d), e), f) = rw (ne-eqb n 0x90 a, ne-eqb n 0x91 b, ne-eqb n 0x92 c, ne-eqb n 0x93 d, ne-eqb n 0x94 e, ne-eqb n 0x95 f)
+
+pub decoded-strange : (text : List ℕ) (p n : ℕ) → n ≡ byteAt text p → Strange n → Unknown ≡ decoded text p
+unfolding decoded
+decoded-strange text p n h ((((((u, a), b), c), d), e), f) =
+    rw (← h, ne-eqb n 0x90 a, ne-eqb n 0x91 b, ne-eqb n 0x92 c, ne-eqb n 0x93 d, ne-eqb n 0x94 e, ne-eqb n 0x95 f)
+
+-- the opcode and the operand that stand at a command's place
+abbrev pub Bytes : List ℕ → ℕ → Command → Type 0
+Bytes text p RunRaster = byteAt text p ≡ 0x90
+Bytes text p (Expose t) = (byteAt text p ≡ 0x91) × (t ≡ wordAt text (p + 1))
+Bytes text p (LoopBack t) = (byteAt text p ≡ 0x92) × (t ≡ byteAt text (p + 1))
+Bytes text p (CallSequence n) = (byteAt text p ≡ 0x93) × (n ≡ byteAt text (p + 1))
+Bytes text p Terminate = byteAt text p ≡ 0x94
+Bytes text p (Delay t) = (byteAt text p ≡ 0x95) × (t ≡ wordAt text (p + 1))
+Bytes text p Nothing = Unit {0}
+Bytes text p Unknown = Unit {0}
+Bytes text p Unfit = Unit {0}
+
+pub command-bytes : (text : List ℕ) (p : ℕ) → Bytes text p (commandAt text p)
+command-bytes text p =
+    of-command (Bytes text p) text p tt tt tt
+    (λ w. (λ e. e, (λ e. (e, refl), (λ e. (e, refl), (λ e. (e, refl), (λ e. e, (λ e. (e, refl), tt)))))))
+
+-- ── the bytes that a command takes
+-- none, or those that lie whole among the commands
+abbrev Takes : List ℕ → ℕ → Command → Type 0
+Takes text p k = (sizeOf (numberOf k) ≡ 0) ⊎ Whole text p (sizeOf (numberOf k))
+
+module _ (text : List ℕ) (p : ℕ) where
+  pub size-whole : (sizeAt text p ≡ 0) ⊎ Whole text p (sizeAt text p)
+  unfolding sizeAt sizeOf
+  size-whole =
+      of-command (Takes text p) text p (inl refl) (inl refl) (inl refl)
+      (λ w. each (Takes text p) (byteAt text p) (six text p) (λ k e. inr (subst (λ (n : ℕ). Whole text p (sizeOf n)) e w)))
+
+  pub size-fits : (sizeAt text p ≡ 0) ⊎ (p + sizeAt text p ≤ limit text)
+  size-fits = ⊎-elim inl (λ w. inr (w .fits)) size-whole
+
+  pub size-inside : 0 < sizeAt text p → (p + sizeAt text p < length text) × (4 ≤ p)
+  size-inside h = ⊎-elim (λ e. absurd (omega arith)) (λ w. (omega arith, w .from)) size-whole
+
+-- ── the starts counted on from a place
+module _ (text : List ℕ) where
+  pub starts-none : (left p : ℕ) → left ≡ 0 → starts text left p ≡ []
+  unfolding starts
+  starts-none left p e = rw e
+
+  pub starts-off : (left p size : ℕ) → size ≡ sizeAt text p → size ≡ 0 → starts text left p ≡ []
+  unfolding starts
+  starts-off zero p size e z = refl
+  starts-off (suc f) p size e z = rw (eq-eqb (sizeAt text p) 0 (sym e ∙ z))
+
+  pub starts-on : (left p size : ℕ) → (left ≡ 0 → ⊥) → size ≡ sizeAt text p → (size ≡ 0 → ⊥) → starts text left p ≡ p ∷ starts text (left - 1) (p + size)
+  unfolding starts
+  starts-on zero p size l e z = absurd (l refl)
+  starts-on (suc f) p size l e z =
+      let g : suc f - 1 ≡ f = omega arith in
+      rw (e, g, ne-eqb (sizeAt text p) 0 (λ h. z (e ∙ h)))
+
+  pub next-inside : (p size : ℕ) → size ≡ sizeAt text p → (size ≡ 0 → ⊥) → p + size < length text
+  next-inside p size e z = omega (arith, size-inside text p (omega arith))
+
+-- ── a line list's checksum
+drop-take : (k n : ℕ) (l : List ℕ) → drop k (take n l) ≡ take (n - k) (drop k l)
+drop-take zero n l = rw (sub-zero n)
+drop-take (suc k) zero l = let e : 0 - suc k ≡ 0 = omega arith in rw e
+drop-take (suc k) (suc n) [] = rw (take-nil (suc n - suc k))
+drop-take (suc k) (suc n) (x ∷ l) = let e : suc n - suc k ≡ n - k = omega arith in rw e (drop-take k n l)
+
+-- the XOR of the part before byte 3 and the part after it is that of both at once
+pub list-sum : (l : List ℕ) (len : ℕ) → xorOn (xorOn 0 (take 3 l)) (take (len - 4) (drop 4 l)) ≡ xorOf (take 3 l ++ drop 4 (take len l))
+list-sum l len = rw (drop-take 4 len l, xor-append 0 (take 3 l))

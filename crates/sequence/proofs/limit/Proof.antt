@@ -1,0 +1,23 @@
+-- The length byte less 1, and 0 for 0: natural subtraction stops there.
+use native.Mathlib.Omega.{arith}
+use borrow.Author.Needs.{needs}
+use Rattle.sequence.specs.Text.{limit}
+use Rattle.sequence.proofs.limit.Statement.{statement}
+use Rattle.sequence.proofs.limit.Tie as tie
+
+byte-requires : tie.Need-byte-requires
+byte-requires c κs = search needs
+
+sub-result : tie.Need-sub-result
+sub-result c = search needs
+
+returns : tie.Need-returns
+unfolding limit
+returns c = omega arith
+
+returns-2 : tie.Need-returns-2
+unfolding limit
+returns-2 c = omega arith
+
+pub limit-spec : {M : Type 1} → statement M
+limit-spec = tie.close (tie.spec byte-requires sub-result returns returns-2)
