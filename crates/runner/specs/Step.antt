@@ -113,29 +113,29 @@ called last n s =
 unfoldable pub ended : Runner → Stepped
 ended s = cond (ltb 1 (s .rounds)) (another s) (to End (withRunning false s))
 
--- a set never holds more than 8 exposures, so one more is a byte's number: what an act asks of the runner
-abbrev pub Room : Runner → Act → Type 0
-Room s (Refused code) = Unit {0}
-Room s Opens = Unit {0}
-Room s (Exposes r) = s .count < 255
-Room s (Loops t) = Unit {0}
-Room s Waits = Unit {0}
-Room s (Calls n) = Unit {0}
-Room s Ends = Unit {0}
+-- an exposure is made with fewer than 255 in the set: a set never holds more than 8
+abbrev pub Room : ℕ → Act → Type 0
+Room count (Refused code) = Unit {0}
+Room count Opens = Unit {0}
+Room count (Exposes r) = count < 255
+Room count (Loops t) = Unit {0}
+Room count Waits = Unit {0}
+Room count (Calls n) = Unit {0}
+Room count Ends = Unit {0}
 
--- what the runner does with a judgement
-unfoldable pub act : Env → List ℕ → Runner → Act → Stepped
-act E text s (Refused code) = aborted code (s .place) s
-act E text s Opens = begun text s
-act E text s (Exposes r) = exposed text r s
-act E text s (Loops t) = looped text t s
-act E text s Waits = delayed text s
-act E text s (Calls n) = called (E .last) n s
-act E text s Ends = ended s
+-- what the runner does with a judgement; last: the last sequence's number
+unfoldable pub act : ℕ → List ℕ → Runner → Act → Stepped
+act last text s (Refused code) = aborted code (s .place) s
+act last text s Opens = begun text s
+act last text s (Exposes r) = exposed text r s
+act last text s (Loops t) = looped text t s
+act last text s Waits = delayed text s
+act last text s (Calls n) = called last n s
+act last text s Ends = ended s
 
 -- "A step not running is idle and changes nothing. Entering a sequence is one step .. Each command is one step."
 unfoldable pub stepIn : Env → List ℕ → Runner → Stepped
-stepIn E text s = cond (s .entering) (entered text s) (act E text s (judge E text (s .place) (openOf s)))
+stepIn E text s = cond (s .entering) (entered text s) (act (E .last) text s (judge E text (s .place) (openOf s)))
 
 unfoldable pub stepOf : Env → List ℕ → Runner → Stepped
 stepOf E seqs s = cond (s .running) (stepIn E (textOf E seqs (s .sequence)) s) (to Idle s)

@@ -1,11 +1,11 @@
 // The interpreter: what the command at a place comes to, and what one step does with it.
 ghost use mathlib.Core.Path.{_≡_};
-ghost use Prim.Native.Nat.{_+_, _<_, _≤_};
+ghost use mathlib.Core.Bool.{cond};
+ghost use Prim.Native.Nat.{_+_, _*_, _-_, _<_, _≤_};
 ghost use lib.ListN.{length};
 ghost use Rattle.octets.specs.Rows.{firstCode};
 ghost use Rattle.sequence.specs.Text.{sizeAt};
-ghost use Rattle.sequence.specs.Raster.{reachOf};
-ghost use Rattle.sequence.specs.Env.{Env, envOf};
+ghost use Rattle.sequence.specs.Env.{envOf};
 ghost use Rattle.runner.specs.Judge.{isOpen, openElsewhere, isRunRaster, setOf, full, listBad, pathRows, rasterRows, runRows, exposeRows, loopRows, closeRows, unless, exposesIn, judge};
 ghost use Rattle.runner.specs.Step.{openOf, aborted, entered, begun, advances, exposedAt, exposed, looped, delayed, another, called, ended, Room, act, stepIn, stepOf};
 use memory::Place;
@@ -81,10 +81,10 @@ pub enum Act {
 }
 
 // An act, unless a row refused it.
-fn unless(code: u8, act: Act) -> Act
-    ensures { λ r. ⌜ r ≡ unless code act ⌝ }
+fn unless(code: u8, judgement: Act) -> Act
+    ensures { λ r. ⌜ r ≡ unless code judgement ⌝ }
 {
-    if code == 0 { act } else { Act::Refused(code) }
+    if code == 0 { judgement } else { Act::Refused(code) }
 }
 
 // Whether a command is a run raster.
@@ -144,14 +144,21 @@ fn full(text: &[u8], raster: Place, count: u8) -> bool
     set_of(sequence::raster_at(text, raster)) <= count
 }
 
-// Where a raster's last pass stands.
-fn reach(raster: RasterWords) -> u32
-    ensures { λ r. ⌜ r ≡ reachOf raster 0 ⌝ }
+// Where the last pass of a raster stands: the whole sum, not cut to a word.
+fn reach(initial: u16, loops: u16, step: u16) -> u32
+    ensures { λ r. ⌜ r ≡ initial + (loops - 1) * step ⌝ }
 {
-    if raster.loops == 0 {
-        return raster.initial as u32;
+    if loops == 0 {
+        return initial as u32;
     }
-    raster.initial as u32 + (raster.loops as u32 - 1) * (raster.step as u32)
+    initial as u32 + (loops as u32 - 1) * (step as u32)
+}
+
+// Where the mirror stands one step on.
+fn advanced(mirror: u16, step: u16) -> u32
+    ensures { λ r. ⌜ r ≡ mirror + step ⌝ }
+{
+    mirror as u32 + step as u32
 }
 
 // Whether a line list is bad.
@@ -202,7 +209,7 @@ fn path_fault(raster: RasterWords) -> u8
             Runner::END_STOP < raster.step,
             14,
             octets::refuse(
-                (Runner::END_STOP as u32) < reach(raster),
+                (Runner::END_STOP as u32) < reach(raster.initial, raster.loops, raster.step),
                 14,
                 octets::refuse(
                     raster.asrc != 0,
@@ -215,11 +222,11 @@ fn path_fault(raster: RasterWords) -> u8
 }
 
 // The code with which a run raster is refused, or 0.
-fn run_fault(text: &[u8], lists: &[u8], at: Place, open: Opened) -> u8
-    ensures { λ r. ⌜ r ≡ firstCode (runRows (envOf (now (lists .entry))) (now (text .entry)) (at .0) open) ⌝ }
+fn run_fault(text: &[u8], lists: &[u8], at: Place, held: Opened) -> u8
+    ensures { λ r. ⌜ r ≡ firstCode (runRows (envOf (now (lists .entry))) (now (text .entry)) (at .0) held) ⌝ }
 {
     let raster = sequence::raster_at(text, at);
-    octets::refuse(open.elsewhere(at), 3, raster_fault(raster, lists))
+    octets::refuse(held.elsewhere(at), 3, raster_fault(raster, lists))
 }
 
 // The code with which an expose is refused in the raster at a place, or 0.
@@ -249,47 +256,47 @@ fn loop_fault(text: &[u8], at: Place, target: u8, raster: Place, count: u8) -> u
 }
 
 // What an expose comes to.
-fn judge_expose(text: &[u8], time: u16, open: Opened) -> Act
-    ensures { λ r. ⌜ r ≡ unless (firstCode (exposeRows (now (text .entry)) time open)) (exposesIn open) ⌝ }
+fn judge_expose(text: &[u8], time: u16, held: Opened) -> Act
+    ensures { λ r. ⌜ r ≡ unless (firstCode (exposeRows (now (text .entry)) time held)) (exposesIn held) ⌝ }
 {
-    match open {
+    match held {
         Opened::Shut => Act::Refused(3),
         Opened::Open(raster, count) => unless(expose_fault(text, time, raster, count), Act::Exposes(raster)),
     }
 }
 
 // What a loop back comes to.
-fn judge_loop(text: &[u8], at: Place, target: u8, open: Opened) -> Act
-    ensures { λ r. ⌜ r ≡ unless (firstCode (loopRows (now (text .entry)) (at .0) target open)) (Act.Loops target) ⌝ }
+fn judge_loop(text: &[u8], at: Place, target: u8, held: Opened) -> Act
+    ensures { λ r. ⌜ r ≡ unless (firstCode (loopRows (now (text .entry)) (at .0) target held)) (Act.Loops target) ⌝ }
 {
-    match open {
+    match held {
         Opened::Shut => Act::Refused(3),
         Opened::Open(raster, count) => unless(loop_fault(text, at, target, raster, count), Act::Loops(target)),
     }
 }
 
 // The code with which a call or terminate is refused, or 0.
-fn close_fault(text: &[u8], at: Place, open: Opened) -> u8
-    ensures { λ r. ⌜ r ≡ firstCode (closeRows (now (text .entry)) (at .0) open) ⌝ }
+fn close_fault(text: &[u8], at: Place, held: Opened) -> u8
+    ensures { λ r. ⌜ r ≡ firstCode (closeRows (now (text .entry)) (at .0) held) ⌝ }
 {
     octets::refuse(
-        open.is_open(),
+        held.is_open(),
         3,
         octets::refuse(sequence::past(text, at) != sequence::limit(text) as usize, 3, 0),
     )
 }
 
 // What the command at a place comes to.
-pub fn judge(text: &[u8], lists: &[u8], at: Place, open: Opened) -> Act
-    ensures { λ r. ⌜ r ≡ judge (envOf (now (lists .entry))) (now (text .entry)) (at .0) open ⌝ }
+pub fn judge(text: &[u8], lists: &[u8], at: Place, held: Opened) -> Act
+    ensures { λ r. ⌜ r ≡ judge (envOf (now (lists .entry))) (now (text .entry)) (at .0) held ⌝ }
 {
     let command = sequence::command_at(text, at);
     match command {
-        Command::RunRaster => unless(run_fault(text, lists, at, open), Act::Opens),
-        Command::Expose(time) => judge_expose(text, time, open),
-        Command::LoopBack(target) => judge_loop(text, at, target, open),
-        Command::CallSequence(n) => unless(close_fault(text, at, open), Act::Calls(n)),
-        Command::Terminate => unless(close_fault(text, at, open), Act::Ends),
+        Command::RunRaster => unless(run_fault(text, lists, at, held), Act::Opens),
+        Command::Expose(time) => judge_expose(text, time, held),
+        Command::LoopBack(target) => judge_loop(text, at, target, held),
+        Command::CallSequence(n) => unless(close_fault(text, at, held), Act::Calls(n)),
+        Command::Terminate => unless(close_fault(text, at, held), Act::Ends),
         Command::Delay(_) => Act::Waits,
         Command::Nothing => Act::Refused(3),
         Command::Unknown => Act::Refused(3),
@@ -350,13 +357,24 @@ impl Runner {
         }
     }
 
+    // The raster repeats left when a run raster begins: a repeat's jump back doesn't reload them.
+    fn repeats_left(self, raster: RasterWords) -> u16
+        ensures { λ r. ⌜ r ≡ cond (isOpen (openOf self)) (self .repeats) (raster .repeats) ⌝ }
+    {
+        if self.opened().is_open() {
+            self.repeats
+        } else {
+            raster.repeats
+        }
+    }
+
     // The run raster at a place begun: its first repeat, or the next.
     fn run_raster(mut self, text: &[u8], at: Place) -> Stepped
         requires { ⌜ (at .0 ≡ self .place) × (length (now text) ≤ 128) ⌝ }
         ensures { λ r. ⌜ r ≡ begun (now (text .entry)) self ⌝ }
     {
         let raster = sequence::raster_at(text, at);
-        let repeats = if self.opened().is_open() { self.repeats } else { raster.repeats };
+        let repeats = self.repeats_left(raster);
         self.raster = at.number();
         self.place = next_place(text, at);
         self.count = 0;
@@ -401,7 +419,7 @@ impl Runner {
         if !self.advances(words) {
             return self.past_exposure(next, self.mirror);
         }
-        let mirror = self.mirror as u32 + words.step as u32;
+        let mirror = advanced(self.mirror, words.step);
         if (Runner::END_STOP as u32) < mirror {
             return self.aborted(14, self.place);
         }
@@ -498,11 +516,11 @@ impl Runner {
     }
 
     // What the runner does with the judgement of the command at its place.
-    fn act(self, text: &[u8], at: Place, act: Act) -> Stepped
-        requires { ⌜ (at .0 ≡ self .place) × (length (now text) ≤ 128) × Room self act ⌝ }
-        ensures { λ r. ⌜ ((E : Env) → E .last ≡ 127 → r ≡ act E (now (text .entry)) self act) ⌝ }
+    fn act(self, text: &[u8], at: Place, judgement: Act) -> Stepped
+        requires { ⌜ (at .0 ≡ self .place) × (length (now text) ≤ 128) × Room (self .count) judgement ⌝ }
+        ensures { λ r. ⌜ r ≡ act 127 (now (text .entry)) self judgement ⌝ }
     {
-        match act {
+        match judgement {
             Act::Refused(code) => self.aborted(code, self.place),
             Act::Opens => self.run_raster(text, at),
             Act::Exposes(raster) => self.expose(text, at, raster),

@@ -1,3 +1,4 @@
+use Rattle.runner.specs.Judge.{exposeRows}
 use borrow.Author.Needs.{needs}
 use Rattle.runner.proofs.expose_fault.Statement.{statement}
 use Rattle.runner.proofs.expose_fault.Tie as tie
@@ -34,7 +35,8 @@ refuse-requires-3 c κs = search needs
 
 -- src/lib.rt:226:1
 returns : tie.Need-returns
-returns c = ?
+unfolding exposeRows
+returns c = cc
 
 pub expose-fault-spec : {M : Type 1} → statement M
 expose-fault-spec =

@@ -1,3 +1,4 @@
+use Rattle.runner.specs.Judge.{full}
 use borrow.Author.Needs.{needs}
 use Rattle.runner.proofs.full.Statement.{statement}
 use Rattle.runner.proofs.full.Tie as tie
@@ -16,7 +17,7 @@ set-of-requires c κs = search needs
 
 -- src/lib.rt:141:1
 returns : tie.Need-returns
-returns c = ?
+returns c = cc
 
 pub full-spec : {M : Type 1} → statement M
 full-spec = tie.close (tie.spec raster-at-requires set-of-requires returns)

@@ -1,3 +1,9 @@
+use mathlib.Core.Path.{_≡_, sym, ap, _∙_}
+use mathlib.Core.Bool.{Bool, not}
+use mathlib.Core.List.{List}
+use Prim.Native.Nat.{ℕ}
+use Rattle.sequence.specs.declared.ListTest.{ListTest}
+use Rattle.sequence.specs.LineList.{listTest, isGood}
 use borrow.Author.Needs.{needs}
 use Rattle.runner.proofs.list_bad.Statement.{statement}
 use Rattle.runner.proofs.list_bad.Tie as tie
@@ -24,11 +30,11 @@ enum-told-2 c = search needs
 
 -- src/lib.rt:158:1
 returns : tie.Need-returns
-returns c = ?
+returns c = let b = c .before .before in ap (λ (x : ListTest). not (isGood x)) (sym (c .enum-told .given .1) ∙ b .list-test .ensures ∙ ap listTest (b .before .list .ensures))
 
 -- src/lib.rt:158:1
 returns-2 : tie.Need-returns-2
-returns-2 c = ?
+returns-2 c = let b = c .before .before in ap (λ (x : ListTest). not (isGood x)) (sym (c .enum-told2 .given .1) ∙ b .list-test .ensures ∙ ap listTest (b .before .list .ensures))
 
 pub list-bad-spec : {M : Type 1} → statement M
 list-bad-spec =

@@ -1,3 +1,4 @@
+use Rattle.runner.specs.Judge.{loopRows}
 use borrow.Author.Needs.{needs}
 use Rattle.runner.proofs.loop_fault.Statement.{statement}
 use Rattle.runner.proofs.loop_fault.Tie as tie
@@ -39,7 +40,8 @@ refuse-requires-3 c κs = search needs
 
 -- src/lib.rt:237:1
 returns : tie.Need-returns
-returns c = ?
+unfolding loopRows
+returns c = cc
 
 pub loop-fault-spec : {M : Type 1} → statement M
 loop-fault-spec =

@@ -1,3 +1,5 @@
+use Rattle.runner.proofs.Laws.{next-fits}
+use native.Mathlib.Omega.{arith}
 use borrow.Author.Needs.{needs}
 use Rattle.runner.proofs.next_place.Statement.{statement}
 use Rattle.runner.proofs.next_place.Tie as tie
@@ -11,7 +13,7 @@ past-requires c κs = search needs
 
 -- src/lib.rt:305:5
 cast-result : tie.Need-cast-result
-cast-result c = ?
+cast-result c = let a = c .before .before .args in omega (arith, next-fits (a .text .now) (a .at .0) (c .before .before .pre) (search needs))
 
 -- src/lib.rt:301:1
 returns : tie.Need-returns

@@ -1,3 +1,4 @@
+use Rattle.runner.specs.Judge.{rasterRows}
 use borrow.Author.Needs.{needs}
 use Rattle.runner.proofs.raster_fault.Statement.{statement}
 use Rattle.runner.proofs.raster_fault.Tie as tie
@@ -41,7 +42,8 @@ refuse-requires-6 c κs = search needs
 
 -- src/lib.rt:168:1
 returns : tie.Need-returns
-returns c = ?
+unfolding rasterRows
+returns c = cc
 
 pub raster-fault-spec : {M : Type 1} → statement M
 raster-fault-spec =

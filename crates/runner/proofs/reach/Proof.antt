@@ -1,55 +1,30 @@
+use native.Mathlib.Omega.{arith}
+use Rattle.runner.proofs.Laws.{reach-fits, reach-none}
 use borrow.Author.Needs.{needs}
 use Rattle.runner.proofs.reach.Statement.{statement}
 use Rattle.runner.proofs.reach.Tie as tie
 use Rattle.runner.proofs.reach.Reads as reads
 use Rattle.runner.proofs.reach.Lts as lts
 
--- src/lib.rt:152:16
-cast-result : tie.Need-cast-result
-cast-result c = search needs
-
--- src/lib.rt:152:9
+-- src/lib.rt:151:9
 returns : tie.Need-returns
-returns c = ?
+returns c = let a = c .before .args in reach-none (a .initial) (a .loops) (a .step) (c .if1 .taken)
 
--- src/lib.rt:154:5
-cast-result-2 : tie.Need-cast-result-2
-cast-result-2 c = search needs
-
--- src/lib.rt:154:30
-cast-result-3 : tie.Need-cast-result-3
-cast-result-3 c = search needs
-
--- src/lib.rt:154:30
+-- src/lib.rt:153:23
 sub-result : tie.Need-sub-result
 sub-result c = search needs
 
--- src/lib.rt:154:58
-cast-result-4 : tie.Need-cast-result-4
-cast-result-4 c = ?
-
--- src/lib.rt:154:29
+-- src/lib.rt:153:22
 mul-result : tie.Need-mul-result
-mul-result c = ?
+mul-result c = let a = c .before .args in record { fits = omega (arith, reach-fits (a .loops) (a .step) (search needs) (search needs)) }
 
--- src/lib.rt:154:5
+-- src/lib.rt:153:5
 add-result : tie.Need-add-result
-add-result c = ?
+add-result c = let a = c .before .args in omega (arith, reach-fits (a .loops) (a .step) (search needs) (search needs))
 
--- src/lib.rt:148:1
+-- src/lib.rt:147:1
 returns-2 : tie.Need-returns-2
 returns-2 c = search needs
 
 pub reach-spec : {M : Type 1} → statement M
-reach-spec =
-    tie.close
-    (tie.spec
-    cast-result
-    returns
-    cast-result-2
-    cast-result-3
-    sub-result
-    cast-result-4
-    mul-result
-    add-result
-    returns-2)
+reach-spec = tie.close (tie.spec returns sub-result mul-result add-result returns-2)

@@ -1,3 +1,4 @@
+use borrow.Author.Tests.{eq-eqb, ne-eqb}
 use Rattle.runner.proofs.unless.Statement.{statement}
 use Rattle.runner.proofs.unless.Tie as tie
 use Rattle.runner.proofs.unless.Reads as reads
@@ -5,11 +6,11 @@ use Rattle.runner.proofs.unless.Lts as lts
 
 -- src/lib.rt:84:1
 returns : tie.Need-returns
-returns c = ?
+returns c = simp (eq-eqb _ _ (c .if1 .taken))
 
 -- src/lib.rt:84:1
 returns-2 : tie.Need-returns-2
-returns-2 c = ?
+returns-2 c = simp (ne-eqb _ _ (c .if1 .left))
 
 pub unless-spec : {M : Type 1} → statement M
 unless-spec = tie.close (tie.spec returns returns-2)

@@ -27,7 +27,7 @@ returns c = search needs
 
 -- src/lib.rt:119:5
 returns-2 : tie.Need-returns-2
-returns-2 c = ?
+returns-2 c = simp (c .before .before .before .self .given .1, c .before .number .ensures, c .number2 .ensures)
 
 pub elsewhere-spec : {M : Type 1} → statement M
 elsewhere-spec =

@@ -1,3 +1,5 @@
+use Rattle.runner.specs.Step.{advances}
+use borrow.Author.Tests.{le-ltb, lt-ltb}
 use borrow.Author.Needs.{needs}
 use Rattle.runner.proofs.Runner.advances.Statement.{statement}
 use Rattle.runner.proofs.Runner.advances.Tie as tie
@@ -7,7 +9,8 @@ use Rattle.runner.proofs.set_of.Reads as set-of-reads
 
 -- src/lib.rt:377:13
 returns : tie.Need-returns
-returns c = ?
+unfolding advances
+returns c = simp (le-ltb _ _ (c .if1 .taken))
 
 -- src/lib.rt:379:9
 cast-result : tie.Need-cast-result
@@ -27,7 +30,8 @@ cast-result-2 c = search needs
 
 -- src/lib.rt:373:5
 returns-2 : tie.Need-returns-2
-returns-2 c = ?
+unfolding advances
+returns-2 c = simp (lt-ltb _ _ (c .before .before .if1 .left), c .set-of .ensures)
 
 pub advances-spec : {M : Type 1} → statement M
 advances-spec =

@@ -1,3 +1,5 @@
+use borrow.Author.Tests.{lt-ltb, le-ltb}
+use Rattle.runner.specs.Step.{called}
 use borrow.Author.Needs.{needs}
 use Rattle.runner.proofs.Runner.call.Statement.{statement}
 use Rattle.runner.proofs.Runner.call.Tie as tie
@@ -12,7 +14,8 @@ another-requires c κs = search needs
 
 -- src/lib.rt:472:13
 returns : tie.Need-returns
-returns c = ?
+unfolding called
+returns c = simp (lt-ltb _ _ (c .before .if1 .taken), c .another .ensures)
 
 -- src/lib.rt:475:13
 aborted-requires : tie.Need-aborted-requires
@@ -20,11 +23,13 @@ aborted-requires c κs = search needs
 
 -- src/lib.rt:475:13
 returns-2 : tie.Need-returns-2
-returns-2 c = ?
+unfolding called
+returns-2 c = simp (le-ltb _ _ (c .before .before .if1 .left), lt-ltb _ _ (c .before .if2 .taken), c .aborted .ensures)
 
 -- src/lib.rt:468:5
 returns-3 : tie.Need-returns-3
-returns-3 c = ?
+unfolding called
+returns-3 c = simp (le-ltb _ _ (c .before .if1 .left), le-ltb _ _ (c .if2 .left))
 
 pub call-spec : {M : Type 1} → statement M
 call-spec = tie.close (tie.spec another-requires returns aborted-requires returns-2 returns-3)

@@ -1,3 +1,4 @@
+use Rattle.runner.specs.Step.{delayed}
 use borrow.Author.Needs.{needs}
 use Rattle.runner.proofs.Runner.delay.Statement.{statement}
 use Rattle.runner.proofs.Runner.delay.Tie as tie
@@ -29,7 +30,8 @@ next-place-requires c κs = search needs
 
 -- src/lib.rt:442:5
 returns : tie.Need-returns
-returns c = ?
+unfolding delayed
+returns c = cc
 
 pub delay-spec : {M : Type 1} → statement M
 delay-spec =

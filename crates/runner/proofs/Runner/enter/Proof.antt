@@ -1,3 +1,5 @@
+use mathlib.Core.Path.{_≡_, sym, ap, _∙_}
+use Rattle.runner.specs.Step.{enteredBy, entered}
 use borrow.Author.Needs.{needs}
 use Rattle.runner.proofs.Runner.enter.Statement.{statement}
 use Rattle.runner.proofs.Runner.enter.Tie as tie
@@ -24,11 +26,13 @@ enum-known-rounds c = search needs
 
 -- src/lib.rt:336:5
 returns : tie.Need-returns
-returns c = ?
+unfolding entered
+returns c = let b = c .before .before .before .before in c .aborted .ensures ∙ ap (enteredBy (b .before .before .args .self)) (sym (c .before .before .code .given .1) ∙ b .header-of .ensures)
 
 -- src/lib.rt:336:5
 returns-2 : tie.Need-returns-2
-returns-2 c = ?
+unfolding entered
+returns-2 c = let b = c .before .before .before in ap (enteredBy (b .before .before .args .self)) (sym (c .before .rounds .given .1) ∙ b .header-of .ensures)
 
 pub enter-spec : {M : Type 1} → statement M
 enter-spec =

@@ -1,3 +1,6 @@
+use mathlib.Core.Path.{_≡_, sym, ap, _∙_}
+use Rattle.memory.specs.declared.Placed.{Placed}
+use Rattle.runner.specs.Step.{openBy}
 use borrow.Author.Needs.{needs}
 use Rattle.runner.proofs.Runner.opened.Statement.{statement}
 use Rattle.runner.proofs.Runner.opened.Tie as tie
@@ -19,11 +22,11 @@ enum-told c = search needs
 
 -- src/lib.rt:316:5
 returns : tie.Need-returns
-returns c = ?
+returns c = let b = c .before .before .before in ap (λ (x : Placed). openBy x (b .before .args .self .count)) (sym (c .before .raster .given .1) ∙ b .of .ensures)
 
 -- src/lib.rt:316:5
 returns-2 : tie.Need-returns-2
-returns-2 c = ?
+returns-2 c = let b = c .before .before in ap (λ (x : Placed). openBy x (b .before .args .self .count)) (sym (c .enum-told .given .1) ∙ b .of .ensures)
 
 pub opened-spec : {M : Type 1} → statement M
 opened-spec = tie.close (tie.spec of-requires enum-known-raster enum-told returns returns-2)

@@ -1,3 +1,5 @@
+use borrow.Author.Tests.{lt-ltb, le-ltb}
+use Rattle.runner.specs.Step.{ended}
 use borrow.Author.Needs.{needs}
 use Rattle.runner.proofs.Runner.terminate.Statement.{statement}
 use Rattle.runner.proofs.Runner.terminate.Tie as tie
@@ -11,11 +13,13 @@ another-requires c κs = search needs
 
 -- src/lib.rt:491:13
 returns : tie.Need-returns
-returns c = ?
+unfolding ended
+returns c = simp (lt-ltb _ _ (c .before .if1 .taken), c .another .ensures)
 
 -- src/lib.rt:487:5
 returns-2 : tie.Need-returns-2
-returns-2 c = ?
+unfolding ended
+returns-2 c = simp (le-ltb _ _ (c .if1 .left))
 
 pub terminate-spec : {M : Type 1} → statement M
 terminate-spec = tie.close (tie.spec another-requires returns returns-2)
