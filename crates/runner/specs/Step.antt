@@ -52,10 +52,14 @@ enteredBy s (Fault code place) = aborted code place s
 unfoldable pub entered : List ℕ → Runner → Stepped
 entered text s = enteredBy s (headerOf text)
 
+-- "a count left of 0 is taken as 1"
+abbrev pub left : ℕ → ℕ
+left n = cond (ltb 1 n) n 1
+
 -- the number, from 0, of the raster repeat that a run raster begins: a count left includes the repeat under way
 abbrev pub repeatBegun : RasterWords → Runner → Opened → ℕ
 repeatBegun raster s Shut = 0
-repeatBegun raster s (Open r c) = raster .repeats - s .repeats
+repeatBegun raster s (Open r c) = raster .repeats - left (s .repeats)
 
 -- "The mirror goes home, then to initial; the status takes the line list." A repeat's jump back "doesn't reload repeats".
 abbrev pub begunAt : ℕ → ℕ → RasterWords → Runner → Stepped

@@ -84,7 +84,11 @@ pub enum Act {
 fn unless(code: u8, judgement: Act) -> Act
     ensures { λ r. ⌜ r ≡ unless code judgement ⌝ }
 {
-    if code == 0 { judgement } else { Act::Refused(code) }
+    if code == 0 {
+        judgement
+    } else {
+        Act::Refused(code)
+    }
 }
 
 // Whether a command is a run raster.
@@ -236,7 +240,11 @@ fn expose_fault(text: &[u8], time: u16, raster: Place, count: u8) -> u8
     octets::refuse(
         !is_run_raster(sequence::command_at(text, raster)),
         3,
-        octets::refuse(time == 0, 3, octets::refuse(full(text, raster, count), 3, 0)),
+        octets::refuse(
+            time == 0,
+            3,
+            octets::refuse(full(text, raster, count), 3, 0),
+        ),
     )
 }
 
@@ -261,7 +269,10 @@ fn judge_expose(text: &[u8], time: u16, held: Opened) -> Act
 {
     match held {
         Opened::Shut => Act::Refused(3),
-        Opened::Open(raster, count) => unless(expose_fault(text, time, raster, count), Act::Exposes(raster)),
+        Opened::Open(raster, count) => unless(
+            expose_fault(text, time, raster, count),
+            Act::Exposes(raster),
+        ),
     }
 }
 
@@ -271,7 +282,10 @@ fn judge_loop(text: &[u8], at: Place, target: u8, held: Opened) -> Act
 {
     match held {
         Opened::Shut => Act::Refused(3),
-        Opened::Open(raster, count) => unless(loop_fault(text, at, target, raster, count), Act::Loops(target)),
+        Opened::Open(raster, count) => unless(
+            loop_fault(text, at, target, raster, count),
+            Act::Loops(target),
+        ),
     }
 }
 
@@ -282,7 +296,11 @@ fn close_fault(text: &[u8], at: Place, held: Opened) -> u8
     octets::refuse(
         held.is_open(),
         3,
-        octets::refuse(sequence::past(text, at) != sequence::limit(text) as usize, 3, 0),
+        octets::refuse(
+            sequence::past(text, at) != sequence::limit(text) as usize,
+            3,
+            0,
+        ),
     )
 }
 
@@ -336,7 +354,10 @@ impl Runner {
         let event = Event::Abort(code, self.sequence, place);
         self.place = place;
         self.running = false;
-        Stepped { event, runner: self }
+        Stepped {
+            event,
+            runner: self,
+        }
     }
 
     // The sequence entered, or why not.
@@ -406,7 +427,10 @@ impl Runner {
         self.place = next;
         self.count = self.count + 1;
         self.mirror = mirror;
-        Stepped { event, runner: self }
+        Stepped {
+            event,
+            runner: self,
+        }
     }
 
     // The exposure at a place made, in the raster at another; where it fills the set and passes remain the mirror advances after it.

@@ -76,10 +76,15 @@ pub struct UnitStep {
 impl Unit {
     // The mirror's end stop, the tables' sizes and counts, and the longest packet.
     pub const END_STOP: u16 = 2400;
+
     pub const SEQUENCE_TABLE: usize = 16384;
+
     pub const LINE_LIST_TABLE: usize = 7872;
+
     pub const SEQUENCES: u8 = 128;
+
     pub const LINE_LISTS: u8 = 48;
+
     pub const LONGEST_PACKET: usize = 133;
 
     // The unit at power-on.

@@ -1,20 +1,16 @@
+-- Past the end stands 0.
 use Rattle.octets.proofs.Laws.{byte-past}
 use mathlib.Core.Path.{sym}
 use borrow.Author.Needs.{needs}
 use Rattle.octets.proofs.byte.Statement.{statement}
 use Rattle.octets.proofs.byte.Tie as tie
-use Rattle.octets.proofs.byte.Reads as reads
-use Rattle.octets.proofs.byte.Lts as lts
 
--- src/lib.rt:11:23
 shared-slice-read-result : tie.Need-shared-slice-read-result
 shared-slice-read-result c = search needs
 
--- src/lib.rt:8:1
 returns : tie.Need-returns
 returns c = search needs
 
--- src/lib.rt:8:1
 returns-2 : tie.Need-returns-2
 returns-2 c = sym (byte-past (c .before .args .s .now) _ (c .if1 .left))
 

@@ -1,45 +1,34 @@
+-- Past the end stands 0; else the sum of two bytes fits.
 use Rattle.octets.proofs.Laws.{word-past}
 use mathlib.Core.Path.{sym}
 use borrow.Author.Needs.{needs}
 use Rattle.octets.proofs.word.Statement.{statement}
 use Rattle.octets.proofs.word.Tie as tie
-use Rattle.octets.proofs.word.Reads as reads
-use Rattle.octets.proofs.word.Lts as lts
-use Rattle.octets.proofs.byte.Reads as byte-reads
 
--- src/lib.rt:19:10
 byte-requires : tie.Need-byte-requires
 byte-requires c κs = search needs
 
--- src/lib.rt:19:10
 cast-result : tie.Need-cast-result
 cast-result c = search needs
 
--- src/lib.rt:19:9
 mul-result : tie.Need-mul-result
 mul-result c = search needs
 
--- src/lib.rt:19:47
 add-byte : tie.Need-add-byte
 add-byte c = search needs
 
--- src/lib.rt:19:39
 byte-requires-2 : tie.Need-byte-requires-2
 byte-requires-2 c κs = search needs
 
--- src/lib.rt:19:39
 cast-result-2 : tie.Need-cast-result-2
 cast-result-2 c = search needs
 
--- src/lib.rt:19:9
 add-result : tie.Need-add-result
 add-result c = search needs
 
--- src/lib.rt:15:1
 returns : tie.Need-returns
 returns c = search needs
 
--- src/lib.rt:15:1
 returns-2 : tie.Need-returns-2
 returns-2 c = sym (word-past (c .before .before .args .s .now) _ (c .if1 .left))
 

@@ -1,3 +1,4 @@
+-- The invariant: what is left to be XORed, from the number now, gives the whole answer.
 use borrow.Author.Needs.{needs}
 use mathlib.Core.Path.{_≡_, refl, sym, _∙_}
 use Prim.Native.Nat.{_≤_, _-_}
@@ -6,8 +7,6 @@ use Rattle.octets.specs.Bytes.{xorOn}
 use Rattle.octets.proofs.Laws.{xor-step, xor-end}
 use Rattle.octets.proofs.xor_on.Statement.{statement}
 use Rattle.octets.proofs.xor_on.Tie as tie
-use Rattle.octets.proofs.xor_on.Reads as reads
-use Rattle.octets.proofs.xor_on.Lts as lts
 
 abbrev Inv-loop : tie.InvT-loop
 Inv-loop start s x₀ i₀ x i = (i ≤ length s) × (xorOn x (drop i s) ≡ xorOn start s)
@@ -15,27 +14,21 @@ Inv-loop start s x₀ i₀ x i = (i ≤ length s) × (xorOn x (drop i s) ≡ xor
 abbrev μ-loop : tie.MeasureT-loop
 μ-loop start s x₀ i₀ x i = length s - i
 
--- src/lib.rt:55:5
 loop-holds : tie.Need-loop-holds Inv-loop μ-loop
 loop-holds c = (search needs, refl)
 
--- src/lib.rt:56:17
 shared-slice-read-x : tie.Need-shared-slice-read-x Inv-loop μ-loop
 shared-slice-read-x c = search needs
 
--- src/lib.rt:57:9
 add-i : tie.Need-add-i Inv-loop μ-loop
 add-i c = search needs
 
--- src/lib.rt:55:5
 loop-less : tie.Need-loop-less Inv-loop μ-loop
 loop-less c = search needs
 
--- src/lib.rt:55:5
 loop-again : tie.Need-loop-again Inv-loop μ-loop
 loop-again c = (search needs, xor-step _ _ _ (c .before .loop-test .taken) ∙ c .before .before .loop .inv .1)
 
--- src/lib.rt:50:1
 returns : tie.Need-returns Inv-loop μ-loop
 returns c = sym (xor-end _ _ _ (c .loop-test .left)) ∙ c .before .loop .inv .1
 

@@ -1,132 +1,98 @@
-use mathlib.Core.Path.{_≡_, refl}
+-- One law for every arm: what the command that was matched is judged.
+use mathlib.Core.Path.{refl}
 use Rattle.sequence.specs.Env.{envOf}
 use Rattle.runner.specs.Judge.{judged}
 use Rattle.runner.proofs.Laws.{judge-by, decided}
 use borrow.Author.Needs.{needs}
 use Rattle.runner.proofs.judge.Statement.{statement}
 use Rattle.runner.proofs.judge.Tie as tie
-use Rattle.runner.proofs.judge.Reads as reads
-use Rattle.runner.proofs.judge.Lts as lts
-use Rattle.runner.proofs.close_fault.Reads as close-fault-reads
-use Rattle.runner.proofs.judge_expose.Reads as judge-expose-reads
-use Rattle.runner.proofs.judge_loop.Reads as judge-loop-reads
-use Rattle.runner.proofs.run_fault.Reads as run-fault-reads
-use Rattle.runner.proofs.unless.Reads as unless-reads
-use Rattle.sequence.proofs.command_at.Reads as command-at-reads
 
--- src/lib.rt:286:9
 command-at-requires : tie.Need-command-at-requires
 command-at-requires c κs = search needs
 
--- src/lib.rt:288:38
 enum-told : tie.Need-enum-told
 enum-told c = search needs
 
--- src/lib.rt:288:38
 run-fault-requires : tie.Need-run-fault-requires
 run-fault-requires c κs = search needs
 
--- src/lib.rt:288:31
 unless-requires : tie.Need-unless-requires
 unless-requires c κs = search needs
 
--- src/lib.rt:289:25
 enum-known-command : tie.Need-enum-known-command
 enum-known-command c = search needs
 
--- src/lib.rt:289:34
 judge-expose-requires : tie.Need-judge-expose-requires
 judge-expose-requires c κs = search needs
 
--- src/lib.rt:290:27
 enum-known-command-2 : tie.Need-enum-known-command-2
 enum-known-command-2 c = search needs
 
--- src/lib.rt:290:38
 judge-loop-requires : tie.Need-judge-loop-requires
 judge-loop-requires c κs = search needs
 
--- src/lib.rt:291:31
 enum-known-command-3 : tie.Need-enum-known-command-3
 enum-known-command-3 c = search needs
 
--- src/lib.rt:291:44
 close-fault-requires : tie.Need-close-fault-requires
 close-fault-requires c κs = search needs
 
--- src/lib.rt:291:37
 unless-requires-2 : tie.Need-unless-requires-2
 unless-requires-2 c κs = search needs
 
--- src/lib.rt:292:38
 enum-told-2 : tie.Need-enum-told-2
 enum-told-2 c = search needs
 
--- src/lib.rt:292:38
 close-fault-requires-2 : tie.Need-close-fault-requires-2
 close-fault-requires-2 c κs = search needs
 
--- src/lib.rt:292:31
 unless-requires-3 : tie.Need-unless-requires-3
 unless-requires-3 c κs = search needs
 
--- src/lib.rt:293:30
 enum-told-3 : tie.Need-enum-told-3
 enum-told-3 c = search needs
 
--- src/lib.rt:294:29
 enum-told-4 : tie.Need-enum-told-4
 enum-told-4 c = search needs
 
--- src/lib.rt:295:29
 enum-told-5 : tie.Need-enum-told-5
 enum-told-5 c = search needs
 
--- src/lib.rt:296:27
 enum-told-6 : tie.Need-enum-told-6
 enum-told-6 c = search needs
 
--- src/lib.rt:283:1
 returns : tie.Need-returns
 unfolding judged
 returns c = let b = c .before .before .before .before in let a = b .before .before .before .args in judge-by (envOf (a .lists .now)) (a .text .now) (a .at .0) (a .held) _ _ _ (b .command-at .ensures) (c .before .before .enum-told .given .1) (decided _ _ _ _ (c .unless .ensures) (c .before .run-fault .ensures))
 
--- src/lib.rt:283:1
 returns-2 : tie.Need-returns-2
 unfolding judged
 returns-2 c = let b = c .before .before .before .before in let a = b .before .before .before .args in judge-by (envOf (a .lists .now)) (a .text .now) (a .at .0) (a .held) _ _ _ (b .command-at .ensures) (c .before .before .command .given .1) (c .judge-expose .ensures)
 
--- src/lib.rt:283:1
 returns-3 : tie.Need-returns-3
 unfolding judged
 returns-3 c = let b = c .before .before .before .before in let a = b .before .before .before .args in judge-by (envOf (a .lists .now)) (a .text .now) (a .at .0) (a .held) _ _ _ (b .command-at .ensures) (c .before .before .command2 .given .1) (c .judge-loop .ensures)
 
--- src/lib.rt:283:1
 returns-4 : tie.Need-returns-4
 unfolding judged
 returns-4 c = let b = c .before .before .before .before .before in let a = b .before .before .before .args in judge-by (envOf (a .lists .now)) (a .text .now) (a .at .0) (a .held) _ _ _ (b .command-at .ensures) (c .before .before .before .command3 .given .1) (decided _ _ _ _ (c .unless2 .ensures) (c .before .close-fault .ensures))
 
--- src/lib.rt:283:1
 returns-5 : tie.Need-returns-5
 unfolding judged
 returns-5 c = let b = c .before .before .before .before in let a = b .before .before .before .args in judge-by (envOf (a .lists .now)) (a .text .now) (a .at .0) (a .held) _ _ _ (b .command-at .ensures) (c .before .before .enum-told2 .given .1) (decided _ _ _ _ (c .unless3 .ensures) (c .before .close-fault2 .ensures))
 
--- src/lib.rt:283:1
 returns-6 : tie.Need-returns-6
 unfolding judged
 returns-6 c = let b = c .before .before in let a = b .before .before .before .args in judge-by (envOf (a .lists .now)) (a .text .now) (a .at .0) (a .held) _ _ _ (b .command-at .ensures) (c .enum-told3 .given .1) refl
 
--- src/lib.rt:283:1
 returns-7 : tie.Need-returns-7
 unfolding judged
 returns-7 c = let b = c .before .before in let a = b .before .before .before .args in judge-by (envOf (a .lists .now)) (a .text .now) (a .at .0) (a .held) _ _ _ (b .command-at .ensures) (c .enum-told4 .given .1) refl
 
--- src/lib.rt:283:1
 returns-8 : tie.Need-returns-8
 unfolding judged
 returns-8 c = let b = c .before .before in let a = b .before .before .before .args in judge-by (envOf (a .lists .now)) (a .text .now) (a .at .0) (a .held) _ _ _ (b .command-at .ensures) (c .enum-told5 .given .1) refl
 
--- src/lib.rt:283:1
 returns-9 : tie.Need-returns-9
 unfolding judged
 returns-9 c = let b = c .before .before in let a = b .before .before .before .args in judge-by (envOf (a .lists .now)) (a .text .now) (a .at .0) (a .held) _ _ _ (b .command-at .ensures) (c .enum-told6 .given .1) refl

@@ -1,37 +1,28 @@
-use mathlib.Core.Path.{_≡_, refl, sym, ap, _∙_}
+-- With no open raster the first row refuses; else the rows decide.
+use mathlib.Core.Path.{sym, ap, _∙_}
 use Rattle.octets.specs.Rows.{firstCode}
 use Rattle.runner.specs.declared.Opened.{Opened}
 use Rattle.runner.specs.Judge.{unless, exposeRows, exposesIn}
 use borrow.Author.Needs.{needs}
 use Rattle.runner.proofs.judge_expose.Statement.{statement}
 use Rattle.runner.proofs.judge_expose.Tie as tie
-use Rattle.runner.proofs.judge_expose.Reads as reads
-use Rattle.runner.proofs.judge_expose.Lts as lts
-use Rattle.runner.proofs.expose_fault.Reads as expose-fault-reads
-use Rattle.runner.proofs.unless.Reads as unless-reads
 
--- src/lib.rt:256:25
 enum-told : tie.Need-enum-told
 enum-told c = search needs
 
--- src/lib.rt:257:22
 enum-known-held : tie.Need-enum-known-held
 enum-known-held c = search needs
 
--- src/lib.rt:257:47
 expose-fault-requires : tie.Need-expose-fault-requires
 expose-fault-requires c κs = search needs
 
--- src/lib.rt:257:40
 unless-requires : tie.Need-unless-requires
 unless-requires c κs = search needs
 
--- src/lib.rt:252:1
 returns : tie.Need-returns
 unfolding exposeRows
 returns c = let a = c .before .before .before .args in ap (λ (o : Opened). unless (firstCode (exposeRows (a .text .now) (a .time) o)) (exposesIn o)) (sym (c .enum-told .given .1))
 
--- src/lib.rt:252:1
 returns-2 : tie.Need-returns-2
 returns-2 c = let a = c .before .before .before .before .before .before .args in c .unless .ensures ∙ rw (c .before .expose-fault .ensures) (ap (λ (o : Opened). unless (firstCode (exposeRows (a .text .now) (a .time) o)) (exposesIn o)) (sym (c .before .before .before .held .given .1)))
 

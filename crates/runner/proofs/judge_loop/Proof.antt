@@ -1,4 +1,5 @@
-use mathlib.Core.Path.{_≡_, refl, sym, ap, _∙_}
+-- With no open raster the first row refuses; else the rows decide.
+use mathlib.Core.Path.{sym, ap, _∙_}
 use Rattle.octets.specs.Rows.{firstCode}
 use Rattle.runner.specs.declared.Opened.{Opened}
 use Rattle.runner.specs.declared.Act.the-variants.{Loops}
@@ -6,33 +7,23 @@ use Rattle.runner.specs.Judge.{unless, loopRows}
 use borrow.Author.Needs.{needs}
 use Rattle.runner.proofs.judge_loop.Statement.{statement}
 use Rattle.runner.proofs.judge_loop.Tie as tie
-use Rattle.runner.proofs.judge_loop.Reads as reads
-use Rattle.runner.proofs.judge_loop.Lts as lts
-use Rattle.runner.proofs.loop_fault.Reads as loop-fault-reads
-use Rattle.runner.proofs.unless.Reads as unless-reads
 
--- src/lib.rt:266:25
 enum-told : tie.Need-enum-told
 enum-told c = search needs
 
--- src/lib.rt:267:22
 enum-known-held : tie.Need-enum-known-held
 enum-known-held c = search needs
 
--- src/lib.rt:267:47
 loop-fault-requires : tie.Need-loop-fault-requires
 loop-fault-requires c κs = search needs
 
--- src/lib.rt:267:40
 unless-requires : tie.Need-unless-requires
 unless-requires c κs = search needs
 
--- src/lib.rt:262:1
 returns : tie.Need-returns
 unfolding loopRows
 returns c = let a = c .before .before .before .args in ap (λ (o : Opened). unless (firstCode (loopRows (a .text .now) (a .at .0) (a .target) o)) (Loops (a .target))) (sym (c .enum-told .given .1))
 
--- src/lib.rt:262:1
 returns-2 : tie.Need-returns-2
 returns-2 c = let a = c .before .before .before .before .before .before .args in c .unless .ensures ∙ rw (c .before .loop-fault .ensures) (ap (λ (o : Opened). unless (firstCode (loopRows (a .text .now) (a .at .0) (a .target) o)) (Loops (a .target))) (sym (c .before .before .before .held .given .1)))
 

@@ -1,28 +1,22 @@
+-- Both factors are words, so product and sum fit a double word.
 use native.Mathlib.Omega.{arith}
 use Rattle.runner.proofs.Laws.{reach-fits, reach-none}
 use borrow.Author.Needs.{needs}
 use Rattle.runner.proofs.reach.Statement.{statement}
 use Rattle.runner.proofs.reach.Tie as tie
-use Rattle.runner.proofs.reach.Reads as reads
-use Rattle.runner.proofs.reach.Lts as lts
 
--- src/lib.rt:151:9
 returns : tie.Need-returns
 returns c = let a = c .before .args in reach-none (a .initial) (a .loops) (a .step) (c .if1 .taken)
 
--- src/lib.rt:153:23
 sub-result : tie.Need-sub-result
 sub-result c = search needs
 
--- src/lib.rt:153:22
 mul-result : tie.Need-mul-result
 mul-result c = let a = c .before .args in record { fits = omega (arith, reach-fits (a .loops) (a .step) (search needs) (search needs)) }
 
--- src/lib.rt:153:5
 add-result : tie.Need-add-result
 add-result c = let a = c .before .args in omega (arith, reach-fits (a .loops) (a .step) (search needs) (search needs))
 
--- src/lib.rt:147:1
 returns-2 : tie.Need-returns-2
 returns-2 c = search needs
 

@@ -1,14 +1,11 @@
+-- Each way out is the definition's branch.
 use borrow.Author.Tests.{le-leb, lt-leb}
 use Rattle.runner.proofs.set_of.Statement.{statement}
 use Rattle.runner.proofs.set_of.Tie as tie
-use Rattle.runner.proofs.set_of.Reads as reads
-use Rattle.runner.proofs.set_of.Lts as lts
 
--- src/lib.rt:130:1
 returns : tie.Need-returns
 returns c = simp (le-leb _ _ (c .if1 .taken))
 
--- src/lib.rt:130:1
 returns-2 : tie.Need-returns-2
 returns-2 c = simp (lt-leb _ _ (c .if1 .left))
 

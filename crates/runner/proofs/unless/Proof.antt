@@ -1,14 +1,11 @@
+-- Each way out is the definition's branch.
 use borrow.Author.Tests.{eq-eqb, ne-eqb}
 use Rattle.runner.proofs.unless.Statement.{statement}
 use Rattle.runner.proofs.unless.Tie as tie
-use Rattle.runner.proofs.unless.Reads as reads
-use Rattle.runner.proofs.unless.Lts as lts
 
--- src/lib.rt:84:1
 returns : tie.Need-returns
 returns c = simp (eq-eqb _ _ (c .if1 .taken))
 
--- src/lib.rt:84:1
 returns-2 : tie.Need-returns-2
 returns-2 c = simp (ne-eqb _ _ (c .if1 .left))
 

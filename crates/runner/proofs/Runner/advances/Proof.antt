@@ -1,34 +1,26 @@
+-- The definition's two tests, the first decided by the branch.
 use Rattle.runner.specs.Step.{advances}
 use borrow.Author.Tests.{le-ltb, lt-ltb}
 use borrow.Author.Needs.{needs}
 use Rattle.runner.proofs.Runner.advances.Statement.{statement}
 use Rattle.runner.proofs.Runner.advances.Tie as tie
-use Rattle.runner.proofs.Runner.advances.Reads as reads
-use Rattle.runner.proofs.Runner.advances.Lts as lts
-use Rattle.runner.proofs.set_of.Reads as set-of-reads
 
--- src/lib.rt:377:13
 returns : tie.Need-returns
 unfolding advances
 returns c = simp (le-ltb _ _ (c .if1 .taken))
 
--- src/lib.rt:379:9
 cast-result : tie.Need-cast-result
 cast-result c = search needs
 
--- src/lib.rt:379:9
 add-result : tie.Need-add-result
 add-result c = search needs
 
--- src/lib.rt:379:34
 set-of-requires : tie.Need-set-of-requires
 set-of-requires c κs = search needs
 
--- src/lib.rt:379:34
 cast-result-2 : tie.Need-cast-result-2
 cast-result-2 c = search needs
 
--- src/lib.rt:373:5
 returns-2 : tie.Need-returns-2
 unfolding advances
 returns-2 c = simp (lt-ltb _ _ (c .before .before .if1 .left), c .set-of .ensures)

@@ -1,32 +1,24 @@
+-- Each way out is the definition's branch.
 use borrow.Author.Tests.{lt-ltb, le-ltb}
 use Rattle.runner.specs.Step.{called}
 use borrow.Author.Needs.{needs}
 use Rattle.runner.proofs.Runner.call.Statement.{statement}
 use Rattle.runner.proofs.Runner.call.Tie as tie
-use Rattle.runner.proofs.Runner.call.Reads as reads
-use Rattle.runner.proofs.Runner.call.Lts as lts
-use Rattle.runner.proofs.Runner.aborted.Reads as aborted-reads
-use Rattle.runner.proofs.Runner.another.Reads as another-reads
 
--- src/lib.rt:472:13
 another-requires : tie.Need-another-requires
 another-requires c κs = search needs
 
--- src/lib.rt:472:13
 returns : tie.Need-returns
 unfolding called
 returns c = simp (lt-ltb _ _ (c .before .if1 .taken), c .another .ensures)
 
--- src/lib.rt:475:13
 aborted-requires : tie.Need-aborted-requires
 aborted-requires c κs = search needs
 
--- src/lib.rt:475:13
 returns-2 : tie.Need-returns-2
 unfolding called
 returns-2 c = simp (le-ltb _ _ (c .before .before .if1 .left), lt-ltb _ _ (c .before .if2 .taken), c .aborted .ensures)
 
--- src/lib.rt:468:5
 returns-3 : tie.Need-returns-3
 unfolding called
 returns-3 c = simp (le-ltb _ _ (c .before .if1 .left), le-ltb _ _ (c .if2 .left))

@@ -1,30 +1,23 @@
-use mathlib.Core.Path.{_≡_, sym, ap, _∙_}
+-- What the place's range test found, put into the definition by its case.
+use mathlib.Core.Path.{sym, ap, _∙_}
 use Rattle.memory.specs.declared.Placed.{Placed}
 use Rattle.runner.specs.Step.{openBy}
 use borrow.Author.Needs.{needs}
 use Rattle.runner.proofs.Runner.opened.Statement.{statement}
 use Rattle.runner.proofs.Runner.opened.Tie as tie
-use Rattle.runner.proofs.Runner.opened.Reads as reads
-use Rattle.runner.proofs.Runner.opened.Lts as lts
-use Rattle.memory.proofs.Place.of.Reads as of-reads
 
--- src/lib.rt:319:15
 of-requires : tie.Need-of-requires
 of-requires c κs = search needs
 
--- src/lib.rt:320:24
 enum-known-raster : tie.Need-enum-known-raster
 enum-known-raster c = search needs
 
--- src/lib.rt:321:32
 enum-told : tie.Need-enum-told
 enum-told c = search needs
 
--- src/lib.rt:316:5
 returns : tie.Need-returns
 returns c = let b = c .before .before .before in ap (λ (x : Placed). openBy x (b .before .args .self .count)) (sym (c .before .raster .given .1) ∙ b .of .ensures)
 
--- src/lib.rt:316:5
 returns-2 : tie.Need-returns-2
 returns-2 c = let b = c .before .before in ap (λ (x : Placed). openBy x (b .before .args .self .count)) (sym (c .enum-told .given .1) ∙ b .of .ensures)
 

@@ -1,34 +1,25 @@
+-- Idle or the step in the sequence's text; an entry has at most 128 bytes.
 use Rattle.sequence.specs.Env.{envOf}
 use Rattle.runner.proofs.Laws.{step-idle, step-runs}
-use native.Mathlib.Omega.{arith}
 use borrow.Author.Tests.{not-true, not-false}
 use lib.ListN.{length}
 use Prim.Native.Nat.{ℕ, _≤_}
-use mathlib.Core.Path.{_≡_, sym, subst}
+use mathlib.Core.Path.{sym, subst}
 use mathlib.Core.List.{List}
 use Rattle.memory.proofs.Laws.{entry-short}
-use Rattle.runner.specs.Step.{stepOf}
 use borrow.Author.Needs.{needs}
 use Rattle.runner.proofs.Runner.step.Statement.{statement}
 use Rattle.runner.proofs.Runner.step.Tie as tie
-use Rattle.runner.proofs.Runner.step.Reads as reads
-use Rattle.runner.proofs.Runner.step.Lts as lts
-use Rattle.memory.proofs.entry.Reads as entry-reads
-use Rattle.runner.proofs.Runner.step_in.Reads as step-in-reads
 
--- src/lib.rt:535:13
 returns : tie.Need-returns
 returns c = let a = c .before .before .before .before .args in step-idle (envOf (a .lists .now)) (a .seqs .now) (a .self) (not-true (a .self .running) (c .if1 .taken))
 
--- src/lib.rt:540:22
 entry-requires : tie.Need-entry-requires
 entry-requires c κs = search needs
 
--- src/lib.rt:540:9
 step-in-requires : tie.Need-step-in-requires
 step-in-requires c κs = let a = c .before .before .before .before .before .args in subst (λ (t : List ℕ). length t ≤ 128) (sym (c .entry .ensures)) (entry-short (a .seqs .now) (a .self .sequence))
 
--- src/lib.rt:531:5
 returns-2 : tie.Need-returns-2
 returns-2 c = let a = c .before .before .before .before .before .before .args in step-runs (envOf (a .lists .now)) (a .seqs .now) (a .self) _ _ (not-false (a .self .running) (c .before .before .if1 .left)) (c .before .entry .ensures) (c .step-in .ensures)
 
