@@ -24,7 +24,7 @@ refuse-requires-2 c κs = search needs
 
 returns : tie.Need-returns
 unfolding closeRows
-returns c = cc
+returns c = simp (c .refuse2 .ensures, c .before .refuse .ensures, c .before .before .limit .ensures, c .before .before .before .past .ensures, c .before .before .before .before .is-open .ensures)
 
 pub close-fault-spec : {M : Type 1} → statement M
 close-fault-spec =

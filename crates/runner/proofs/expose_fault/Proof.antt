@@ -24,7 +24,7 @@ refuse-requires-3 c κs = search needs
 
 returns : tie.Need-returns
 unfolding exposeRows
-returns c = cc
+returns c = simp (c .refuse3 .ensures, c .before .refuse2 .ensures, c .before .before .refuse .ensures, c .before .before .before .full .ensures, c .before .before .before .before .is-run-raster .ensures, c .before .before .before .before .before .command-at .ensures)
 
 pub expose-fault-spec : {M : Type 1} → statement M
 expose-fault-spec =

@@ -10,7 +10,7 @@ set-of-requires : tie.Need-set-of-requires
 set-of-requires c κs = search needs
 
 returns : tie.Need-returns
-returns c = cc
+returns c = simp (c .set-of .ensures, c .before .raster-at .ensures)
 
 pub full-spec : {M : Type 1} → statement M
 full-spec = tie.close (tie.spec raster-at-requires set-of-requires returns)

@@ -27,7 +27,7 @@ refuse-requires-3 c κs = search needs
 
 returns : tie.Need-returns
 unfolding loopRows
-returns c = cc
+returns c = simp (c .refuse3 .ensures, c .before .refuse2 .ensures, c .before .before .refuse .ensures, c .before .before .before .target-good .ensures, c .before .before .before .before .full .ensures, c .before .before .before .before .before .is-run-raster .ensures, c .before .before .before .before .before .before .command-at .ensures)
 
 pub loop-fault-spec : {M : Type 1} → statement M
 loop-fault-spec =

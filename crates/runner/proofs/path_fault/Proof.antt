@@ -30,7 +30,7 @@ refuse-requires-5 c κs = search needs
 
 returns : tie.Need-returns
 unfolding pathRows
-returns c = cc
+returns c = simp (c .refuse5 .ensures, c .before .refuse4 .ensures, c .before .before .refuse3 .ensures, c .before .before .before .refuse2 .ensures, c .before .before .before .before .refuse .ensures, c .before .before .before .before .before .flags-good .ensures, c .before .before .before .before .before .before .before .reach .ensures)
 
 pub path-fault-spec : {M : Type 1} → statement M
 path-fault-spec =

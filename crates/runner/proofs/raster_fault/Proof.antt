@@ -30,7 +30,7 @@ refuse-requires-6 c κs = search needs
 
 returns : tie.Need-returns
 unfolding rasterRows
-returns c = cc
+returns c = simp (c .refuse6 .ensures, c .before .refuse5 .ensures, c .before .before .refuse4 .ensures, c .before .before .before .refuse3 .ensures, c .before .before .before .before .refuse2 .ensures, c .before .before .before .before .before .refuse .ensures, c .before .before .before .before .before .before .path-fault .ensures, c .before .before .before .before .before .before .before .list-bad .ensures)
 
 pub raster-fault-spec : {M : Type 1} → statement M
 raster-fault-spec =

@@ -18,7 +18,7 @@ refuse-requires c κs = search needs
 
 returns : tie.Need-returns
 unfolding runRows
-returns c = cc
+returns c = simp (c .refuse .ensures, c .before .raster-fault .ensures, c .before .before .elsewhere .ensures, c .before .before .before .raster-at .ensures)
 
 pub run-fault-spec : {M : Type 1} → statement M
 run-fault-spec =

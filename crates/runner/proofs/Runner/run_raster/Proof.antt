@@ -18,7 +18,7 @@ next-place-requires c κs = search needs
 
 returns : tie.Need-returns
 unfolding begun
-returns c = cc
+returns c = simp (c .next-place .ensures, c .before .number .ensures, c .before .before .repeats-left .ensures, c .before .before .before .raster-at .ensures, c .before .before .before .before .before .pre .0)
 
 pub run-raster-spec : {M : Type 1} → statement M
 run-raster-spec =

@@ -1,0 +1,38 @@
+-- keel_check's report of 152 bytes: "0 code (0 passed; a fault's code; 16; 7); 1: 0 nothing listed, 1 ends, 2 returns, 3 fault; 2 fault's
+-- sequence; 3 its place; 6-7 how many are listed; 8-15 steps; 16-23 exposures, high byte first; 24-151 the chain, zeros after it; all else 0"
+use Prim.Native.Nat.{ℕ, _/_, _%_, _^_}
+use mathlib.Core.Bool.{Bool, cond}
+use mathlib.Core.List.{List, [], _∷_, _++_}
+use lib.Dec.{eqb}
+use lib.ListN.{length}
+use Rattle.unit.specs.Status.{two}
+use Rattle.survey.specs.Chain.{Told, checkOf}
+use Rattle.survey.specs.Report.{endingShown, padded}
+
+-- eight bytes, high byte first
+abbrev pub eight : ℕ → List ℕ
+eight n =
+    n / 2 ^ 56 % 256
+    ∷ n / 2 ^ 48 % 256
+    ∷ n / 2 ^ 40 % 256
+    ∷ n / 2 ^ 32 % 256
+    ∷ n / 2 ^ 24 % 256
+    ∷ n / 2 ^ 16 % 256
+    ∷ n / 2 ^ 8 % 256
+    ∷ n % 256
+    ∷ []
+
+unfoldable pub reportBytes : Told → List ℕ
+reportBytes t =
+    (endingShown (t .ending) .code ∷ endingShown (t .ending) .number ∷ endingShown (t .ending) .sequence ∷ endingShown (t .ending) .place ∷ 0 ∷ 0 ∷ two (length (t .names)))
+    ++ (eight (t .steps) ++ (eight (t .exposures) ++ padded (t .names)))
+
+abbrev pub reportSized : List ℕ → Bool
+reportSized r = eqb (length r) 152
+
+-- "another size: 16, untouched"
+unfoldable pub checkAnswer : List ℕ → List ℕ → ℕ → List ℕ → ℕ
+checkAnswer seqs lists n r = cond (reportSized r) (endingShown (checkOf seqs lists n .ending) .code) 16
+
+unfoldable pub reportAfter : List ℕ → List ℕ → ℕ → List ℕ → List ℕ
+reportAfter seqs lists n r = cond (reportSized r) (reportBytes (checkOf seqs lists n)) r

@@ -1,0 +1,48 @@
+/* Keelteasel: the control unit's packets and steps, and the table check, for C.
+
+   Every slice is a pointer and a length. Nothing is kept between calls but the bytes that are lent.
+
+   state, 32 bytes, words high byte first: 0 mode; 1 mode changes allowed (0 or 1); 2-3 STATUS_PC; 4-5 received; 6-7 failed;
+   8 failed code; 9 failed number; 10 abort code; 11-14 log; 15 selection, 255 none; 16 status sequence, 255 none; 17 place;
+   18 line list; 19-20 exposures; 21-22 mirror; 23 running (0 or 1); 24 entering (0 or 1); 25 open raster's place, 255 none;
+   26 exposures in the set; 27-28 passes left; 29-30 raster repeats left; 31 rounds left.
+
+   A state not of 32 bytes, tables not of 16,384 and 7,872 bytes or an output below 16,384 bytes: code 16. A state out of range, or a
+   flag byte above 1: code 17. Both leave every lent byte as it was. */
+#ifndef KEEL_H
+#define KEEL_H
+
+#include <stdint.h>
+
+#ifdef __cplusplus
+extern "C" {
+#endif
+
+#define KEEL_STATE_SIZE 32
+#define KEEL_SEQUENCE_TABLE 16384
+#define KEEL_LINE_LIST_TABLE 7872
+#define KEEL_OUTPUT_SIZE 16384
+#define KEEL_REPORT_SIZE 152
+
+/* The state at power-on. Answers 0, or 16. */
+uint32_t keel_power_on(uint8_t *state, uintptr_t state_len);
+
+/* One packet. Answers its code + 256 x the length of what was written to the output. */
+uint32_t keel_packet(uint8_t *state, uintptr_t state_len, uint8_t *seqs, uintptr_t seqs_len, uint8_t *lists, uintptr_t lists_len,
+                     uint8_t *out, uintptr_t out_len, uint32_t time, const uint8_t *packet, uintptr_t packet_len);
+
+/* One step. Answers the event in the low 8 bits (0 IDLE, 1 ENTER s, 2 RASTER id pos, 3 EXP no pos, 4 LOOP place, 5 NEXT, 6 DONE,
+   7 WAIT t, 8 CALL s, 9 END, 10 ABORT code seq place, 11 refused code), its values in 16 bits each at bits 16, 32 and 48. */
+uint64_t keel_step(uint8_t *state, uintptr_t state_len, const uint8_t *seqs, uintptr_t seqs_len, const uint8_t *lists, uintptr_t lists_len);
+
+/* The table check of a sequence. Answers its code and fills a report of 152 bytes (another size: 16, untouched): 0 code; 1: 0 nothing
+   listed, 1 ends, 2 returns, 3 fault; 2 the fault's sequence; 3 its place; 6-7 how many are listed; 8-15 steps; 16-23 exposures, high
+   byte first; 24-151 the chain, zeros after it; all else 0. */
+uint32_t keel_check(const uint8_t *seqs, uintptr_t seqs_len, const uint8_t *lists, uintptr_t lists_len, uint32_t number,
+                    uint8_t *report, uintptr_t report_len);
+
+#ifdef __cplusplus
+}
+#endif
+
+#endif
