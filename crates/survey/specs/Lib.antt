@@ -3,3 +3,5 @@ pub mod Items
 pub mod Walk
 pub mod Chain
 pub mod Report
+pub mod Frame
+pub mod Held

@@ -4,7 +4,10 @@ use mathlib.Core.List.{List, [], _∷_, _++_}
 use lib.ListN.{length, replicate}
 use Rattle.survey.specs.declared.Ending.{Ending}
 use Rattle.survey.specs.declared.Ending.the-variants.{Unlisted, Finishes, Returns, Faulty}
+use Rattle.survey.specs.declared.Walked.{Walked}
+use Rattle.survey.specs.declared.Walked.the-variants.{Fault, Closed}
 use Rattle.survey.specs.declared.Report.{Report}
+use Rattle.survey.specs.Walk.{Finding, passes, faults}
 use Rattle.survey.specs.Chain.{Told}
 
 -- 0 nothing listed, 1 ends, 2 returns, 3 fault; its code; a fault's sequence and place
@@ -29,3 +32,8 @@ padded names = names ++ replicate (128 - length names) 0
 
 unfoldable pub reportOf : Told → Report
 reportOf t = record { ending = t .ending; listed = padded (t .names); count = length (t .names); steps = t .steps; exposures = t .exposures }
+
+-- what one sequence's text comes to, without the items
+abbrev pub walkedOf : Finding → Walked
+walkedOf (passes k x is p c) = Closed p c k x
+walkedOf (faults p code) = Fault p code

@@ -1,7 +1,22 @@
 // The unit: packets, answers, the status block, and its step.
+ghost use Prim.Native.Nat.{_≤_};
 ghost use mathlib.Core.Path.{_≡_};
+ghost use mathlib.Core.Bool.{true, cond, _&&_, _||_};
+ghost use mathlib.Core.List.{[], _∷_, _++_};
+ghost use lib.Dec.{ltb};
+ghost use lib.ListN.{length, take, drop, replicate};
+ghost use Rattle.octets.specs.Bytes.{tripleAt};
+ghost use Rattle.octets.specs.Rows.{firstCode};
+ghost use Rattle.memory.specs.Memory.{windowCode, windowPart, isWrong, partOf};
+ghost use Rattle.unit.specs.State.{powerOn, beyond, runsWrong, some, rangeTests, outOfRange, withLedger, withWatch, withAbort, withMode, withControl, withAllowed, counted, logOf, received, failed, cleared, started, stopped, moded, selected};
+ghost use Rattle.unit.specs.Packet.{between, foreign, dumpRange, uplinkRange, kindOf, isForeign, isUnheard, lengthGood, pairAllowed, ownRows, lentWrong, codeOf};
+ghost use Rattle.unit.specs.Status.{halves, running, orZero, laid, pieces, statusOf};
+ghost use Rattle.unit.specs.Answer.{logged, asked, obeyedUnit, reply, obeyedSeqs, obeyedLists, refusedUnit, answerOf, seqsAfter, listsAfter, outAfter};
+ghost use Rattle.unit.specs.Step.{watched, stepRows, taken, unitStep};
+use memory::Range;
 use runner::Event;
 use runner::Runner;
+use runner::Stepped;
 
 // The log of the last packet: BC1, BC2, BC3, length.
 pub struct Log {
@@ -73,6 +88,26 @@ pub struct UnitStep {
     pub unit: Unit,
 }
 
+impl Ledger {
+    // Nothing counted, refused or logged.
+    fn blank() -> Ledger
+        ensures { λ r. ⌜ r ≡ powerOn .ledger ⌝ }
+    {
+        Ledger {
+            received: 0,
+            failed: 0,
+            code: 0,
+            number: 0,
+            log: Log {
+                bc1: 0,
+                bc2: 0,
+                bc3: 0,
+                size: 0,
+            },
+        }
+    }
+}
+
 impl Unit {
     // The mirror's end stop, the tables' sizes and counts, and the longest packet.
     pub const END_STOP: u16 = 2400;
@@ -92,18 +127,7 @@ impl Unit {
         ensures { λ r. ⌜ r ≡ powerOn ⌝ }
     {
         Unit {
-            ledger: Ledger {
-                received: 0,
-                failed: 0,
-                code: 0,
-                number: 0,
-                log: Log {
-                    bc1: 0,
-                    bc2: 0,
-                    bc3: 0,
-                    size: 0,
-                },
-            },
+            ledger: Ledger::blank(),
             control: Control {
                 mode: 1,
                 allowed: false,
@@ -128,5 +152,835 @@ impl Unit {
                 mirror: 0,
             },
         }
+    }
+}
+
+// Whether a test holds or any of the rest does.
+fn either(test: bool, rest: bool) -> bool
+    ensures { λ r. ⌜ r ≡ (test || rest) ⌝ }
+{
+    if test { true } else { rest }
+}
+
+// Whether two tests hold.
+fn both(test: bool, rest: bool) -> bool
+    ensures { λ r. ⌜ r ≡ (test && rest) ⌝ }
+{
+    if test { rest } else { false }
+}
+
+// Whether a number that may be none is above 127.
+fn beyond(n: u8) -> bool
+    ensures { λ r. ⌜ r ≡ beyond n ⌝ }
+{
+    both(127 < n, n != Runner::NONE)
+}
+
+impl Unit {
+    // Whether it runs outside AUTO, or with selection or status sequence none.
+    fn runs_wrong(self) -> bool
+        ensures { λ r. ⌜ r ≡ runsWrong self ⌝ }
+    {
+        both(
+            self.runner.running,
+            either(
+                self.control.mode != 3,
+                either(
+                    self.control.selection == Runner::NONE,
+                    self.runner.sequence == Runner::NONE,
+                ),
+            ),
+        )
+    }
+
+    // Whether the place, the open raster's place, the line list, the mirror, the exposures in the set or the run itself
+    // is out of range: the tests from the seventh on.
+    fn run_out_of_range(self) -> bool
+        ensures { λ r. ⌜ r ≡ some (drop 6 (rangeTests self)) ⌝ }
+    {
+        either(
+            127 < self.runner.place,
+            either(
+                beyond(self.runner.raster),
+                either(
+                    47 < self.watch.list,
+                    either(
+                        Unit::END_STOP < self.runner.mirror,
+                        either(8 < self.runner.count, either(self.runs_wrong(), false)),
+                    ),
+                ),
+            ),
+        )
+    }
+
+    // Whether the state is out of range.
+    pub fn out_of_range(self) -> bool
+        ensures { λ r. ⌜ r ≡ outOfRange self ⌝ }
+    {
+        either(
+            self.control.mode < 1,
+            either(
+                3 < self.control.mode,
+                either(
+                    15 < self.ledger.code,
+                    either(
+                        15 < self.watch.abort,
+                        either(
+                            beyond(self.runner.sequence),
+                            either(beyond(self.control.selection), self.run_out_of_range()),
+                        ),
+                    ),
+                ),
+            ),
+        )
+    }
+}
+
+// The length that the log keeps: 255 for a packet longer than any that is taken.
+fn log_size(n: usize) -> u8
+    ensures { λ r. ⌜ r ≡ cond (ltb 133 n) 255 n ⌝ }
+{
+    if Unit::LONGEST_PACKET < n {
+        255
+    } else {
+        n as u8
+    }
+}
+
+// The log of a packet: BC1 to BC3, 0 where absent, and its length.
+fn log_of(pkt: &[u8]) -> Log
+    ensures { λ r. ⌜ r ≡ logOf (now (pkt .entry)) ⌝ }
+{
+    Log {
+        bc1: octets::byte(pkt, 0),
+        bc2: octets::byte(pkt, 1),
+        bc3: octets::byte(pkt, 2),
+        size: log_size(pkt.len()),
+    }
+}
+
+// A count one on: 16 bits, wrapping.
+fn counted(n: u16) -> u16
+    ensures { λ r. ⌜ r ≡ counted n ⌝ }
+{
+    std::num::wrapping_add_u16(n, 1)
+}
+
+impl Ledger {
+    // A packet counted and logged.
+    fn received(self, pkt: &[u8]) -> Ledger
+        ensures { λ r. ⌜ r ≡ received (now (pkt .entry)) self ⌝ }
+    {
+        let mut ledger = self;
+        ledger.received = counted(self.received);
+        let log = log_of(pkt);
+        ledger.log = log;
+        ledger
+    }
+
+    // A packet counted, logged and refused with a code.
+    fn failed(self, pkt: &[u8], code: u8) -> Ledger
+        ensures { λ r. ⌜ r ≡ failed (now (pkt .entry)) code self ⌝ }
+    {
+        let mut ledger = self.received(pkt);
+        ledger.failed = counted(self.failed);
+        ledger.code = code;
+        ledger.number = octets::byte(pkt, 0);
+        ledger
+    }
+
+    // No failure is shown.
+    fn cleared(mut self) -> Ledger
+        ensures { λ r. ⌜ r ≡ cleared self ⌝ }
+    {
+        self.code = 0;
+        self.number = 0;
+        self
+    }
+}
+
+impl Unit {
+    // An obeyed packet, counted and logged.
+    fn logged(self, pkt: &[u8]) -> Unit
+        ensures { λ r. ⌜ r ≡ logged (now (pkt .entry)) self ⌝ }
+    {
+        let old = self.ledger;
+        let ledger = old.received(pkt);
+        let mut unit = self;
+        unit.ledger = ledger;
+        unit
+    }
+
+    // A status request, counted by STATUS_PC alone.
+    fn asked(self) -> Unit
+        ensures { λ r. ⌜ r ≡ asked self ⌝ }
+    {
+        let mut control = self.control;
+        control.requests = counted(control.requests);
+        let mut unit = self;
+        unit.control = control;
+        unit
+    }
+
+    // Mode changes are allowed until power off.
+    fn allowed(self) -> Unit
+        ensures { λ r. ⌜ r ≡ withControl (withAllowed true (self .control)) self ⌝ }
+    {
+        let mut control = self.control;
+        control.allowed = true;
+        let mut unit = self;
+        unit.control = control;
+        unit
+    }
+
+    // Failed code, failed number and abort code to 0.
+    fn cleared(self) -> Unit
+        ensures { λ r. ⌜ r ≡ withLedger (cleared (self .ledger)) (withWatch (withAbort 0 (self .watch)) self) ⌝ }
+    {
+        let old = self.ledger;
+        let ledger = old.cleared();
+        let mut watch = self.watch;
+        watch.abort = 0;
+        let mut unit = self;
+        unit.ledger = ledger;
+        unit.watch = watch;
+        unit
+    }
+
+    // AUTO, with the selected sequence to be entered.
+    fn started(self) -> Unit
+        ensures { λ r. ⌜ r ≡ started self ⌝ }
+    {
+        let mut control = self.control;
+        control.mode = 3;
+        let mut watch = self.watch;
+        watch.exposures = 0;
+        watch.abort = 0;
+        let mut runner = self.runner;
+        runner.sequence = control.selection;
+        runner.place = 0;
+        runner.raster = Runner::NONE;
+        runner.running = true;
+        runner.entering = true;
+        let ledger = self.ledger;
+        Unit {
+            ledger,
+            control,
+            watch,
+            runner,
+        }
+    }
+
+    // The sequence stopped by a command: abort code 1, the place kept.
+    fn stopped(self) -> Unit
+        ensures { λ r. ⌜ r ≡ stopped self ⌝ }
+    {
+        let mut watch = self.watch;
+        watch.abort = 1;
+        let mut runner = self.runner;
+        runner.running = false;
+        let mut unit = self;
+        unit.watch = watch;
+        unit.runner = runner;
+        unit
+    }
+
+    // The mode alone changed.
+    fn in_mode(self, mode: u8) -> Unit
+        ensures { λ r. ⌜ r ≡ withControl (withMode mode (self .control)) self ⌝ }
+    {
+        let mut control = self.control;
+        control.mode = mode;
+        let mut unit = self;
+        unit.control = control;
+        unit
+    }
+
+    // The mode changed: to AUTO a start, from a running sequence a stop.
+    fn moded(self, mode: u8) -> Unit
+        ensures { λ r. ⌜ r ≡ moded mode self ⌝ }
+    {
+        if mode == 3 {
+            return self.started();
+        }
+        if self.runner.running {
+            return self.stopped().in_mode(mode);
+        }
+        self.in_mode(mode)
+    }
+
+    // A sequence selected, and shown in the status at place 0.
+    fn selected(self, number: u8) -> Unit
+        ensures { λ r. ⌜ r ≡ selected number self ⌝ }
+    {
+        let mut control = self.control;
+        control.selection = number;
+        let mut runner = self.runner;
+        runner.sequence = number;
+        runner.place = 0;
+        let mut unit = self;
+        unit.control = control;
+        unit.runner = runner;
+        unit
+    }
+}
+
+// Whether a number lies from one to another.
+fn between(from: u8, to: u8, n: u8) -> bool
+    ensures { λ r. ⌜ r ≡ between from to n ⌝ }
+{
+    both(from <= n, n <= to)
+}
+
+// Whether a BC1 is another subsystem's.
+fn foreign(n: u8) -> bool
+    ensures { λ r. ⌜ r ≡ foreign n ⌝ }
+{
+    either(
+        n == 0x00,
+        either(
+            between(0x10, 0x1F, n),
+            either(
+                between(0xE0, 0xE4, n),
+                either(
+                    between(0xF0, 0xF4, n),
+                    either(between(0xF6, 0xFF, n), false),
+                ),
+            ),
+        ),
+    )
+}
+
+// The command that BC1 names.
+pub fn kind_of(bc1: u8) -> Kind
+    ensures { λ r. ⌜ r ≡ kindOf bc1 ⌝ }
+{
+    match bc1 {
+        0x01 => Kind::Status,
+        0x07 => Kind::Dump,
+        0x20 => Kind::Allow,
+        0x21 => Kind::Mode,
+        0x23 => Kind::Clear,
+        0x83 => Kind::Select,
+        0xE7 => Kind::Uplink,
+        _ => {
+            if foreign(bc1) {
+                Kind::Foreign
+            } else {
+                Kind::Unheard
+            }
+        }
+    }
+}
+
+impl Kind {
+    // Whether it is another subsystem's command.
+    fn is_foreign(self) -> bool
+        ensures { λ r. ⌜ r ≡ isForeign self ⌝ }
+    {
+        match self {
+            Kind::Status => false,
+            Kind::Dump => false,
+            Kind::Allow => false,
+            Kind::Mode => false,
+            Kind::Clear => false,
+            Kind::Select => false,
+            Kind::Uplink => false,
+            Kind::Foreign => true,
+            Kind::Unheard => false,
+        }
+    }
+
+    // Whether it is no command of this unit or of another subsystem.
+    fn is_unheard(self) -> bool
+        ensures { λ r. ⌜ r ≡ isUnheard self ⌝ }
+    {
+        match self {
+            Kind::Status => false,
+            Kind::Dump => false,
+            Kind::Allow => false,
+            Kind::Mode => false,
+            Kind::Clear => false,
+            Kind::Select => false,
+            Kind::Uplink => false,
+            Kind::Foreign => false,
+            Kind::Unheard => true,
+        }
+    }
+
+    // Whether the packet is as long as its command says.
+    fn length_good(self, pkt: &[u8]) -> bool
+        ensures { λ r. ⌜ r ≡ lengthGood self (now (pkt .entry)) ⌝ }
+    {
+        let n = pkt.len();
+        match self {
+            Kind::Status => n == 1,
+            Kind::Dump => n == 7,
+            Kind::Allow => both(1 <= n, n <= 2),
+            Kind::Mode => n == 2,
+            Kind::Clear => n == 1,
+            Kind::Select => n == 2,
+            Kind::Uplink => n == 5 + octets::byte(pkt, 4) as usize,
+            Kind::Foreign => true,
+            Kind::Unheard => true,
+        }
+    }
+}
+
+// Whether a mode may follow another.
+fn pair_allowed(from: u8, to: u8) -> bool
+    ensures { λ r. ⌜ r ≡ pairAllowed from to ⌝ }
+{
+    either(
+        both(from == 1, to == 2),
+        either(
+            both(from == 2, to == 1),
+            either(
+                both(from == 2, to == 3),
+                either(both(from == 3, to == 2), false),
+            ),
+        ),
+    )
+}
+
+// Whether a range is in no table.
+fn is_wrong(range: Range) -> bool
+    ensures { λ r. ⌜ r ≡ isWrong range ⌝ }
+{
+    match range {
+        Range::Sequences(_) => false,
+        Range::LineLists(_) => false,
+        Range::Wrong => true,
+    }
+}
+
+// The range that a dump names.
+fn dump_range(pkt: &[u8]) -> Range
+    ensures { λ r. ⌜ r ≡ dumpRange (now (pkt .entry)) ⌝ }
+{
+    memory::range_at(octets::triple(pkt, 1), octets::triple(pkt, 4) as usize)
+}
+
+// The range that an uplink names.
+fn uplink_range(pkt: &[u8]) -> Range
+    ensures { λ r. ⌜ r ≡ uplinkRange (now (pkt .entry)) ⌝ }
+{
+    memory::range_at(octets::triple(pkt, 1), octets::byte(pkt, 4) as usize)
+}
+
+impl Unit {
+    // What a mode change is refused with.
+    fn mode_fault(self, pkt: &[u8]) -> u8
+        ensures { λ r. ⌜ r ≡ firstCode (ownRows Kind.Mode self (now (pkt .entry))) ⌝ }
+    {
+        let mode = octets::byte(pkt, 1);
+        octets::refuse(
+            !self.control.allowed,
+            4,
+            octets::refuse(
+                !between(1, 5, mode),
+                9,
+                octets::refuse(
+                    3 < mode,
+                    6,
+                    octets::refuse(
+                        !pair_allowed(self.control.mode, mode),
+                        3,
+                        octets::refuse(
+                            both(mode == 3, self.control.selection == Runner::NONE),
+                            3,
+                            0,
+                        ),
+                    ),
+                ),
+            ),
+        )
+    }
+
+    // What a selection is refused with.
+    fn select_fault(self, pkt: &[u8]) -> u8
+        ensures { λ r. ⌜ r ≡ firstCode (ownRows Kind.Select self (now (pkt .entry))) ⌝ }
+    {
+        let number = octets::byte(pkt, 1);
+        let outside = self.control.mode != 2;
+        octets::refuse(outside, 10, octets::refuse(127 < number, 7, 0))
+    }
+
+    // What an uplink is refused with.
+    fn uplink_fault(self, pkt: &[u8]) -> u8
+        ensures { λ r. ⌜ r ≡ firstCode (ownRows Kind.Uplink self (now (pkt .entry))) ⌝ }
+    {
+        octets::refuse(
+            self.runner.running,
+            10,
+            octets::refuse(is_wrong(uplink_range(pkt)), 7, 0),
+        )
+    }
+
+    // What the command's own checks refuse it with, 0 for nothing.
+    fn own_fault(self, kind: Kind, pkt: &[u8]) -> u8
+        ensures { λ r. ⌜ r ≡ firstCode (ownRows kind self (now (pkt .entry))) ⌝ }
+    {
+        match kind {
+            Kind::Status => 0,
+            Kind::Dump => octets::refuse(is_wrong(dump_range(pkt)), 7, 0),
+            Kind::Allow => 0,
+            Kind::Mode => self.mode_fault(pkt),
+            Kind::Clear => 0,
+            Kind::Select => self.select_fault(pkt),
+            Kind::Uplink => self.uplink_fault(pkt),
+            Kind::Foreign => 0,
+            Kind::Unheard => 0,
+        }
+    }
+}
+
+// Whether a lent table or the output has a wrong size.
+fn lent_wrong(seqs: &[u8], lists: &[u8], out: &[u8]) -> bool
+    ensures { λ r. ⌜ r ≡ lentWrong (now (seqs .entry)) (now (lists .entry)) (now (out .entry)) ⌝ }
+{
+    either(
+        memory::tables_wrong(seqs, lists),
+        out.len() < memory::LONGEST,
+    )
+}
+
+impl Unit {
+    // The code that a packet is answered: that of the first refusal that holds, or 0.
+    fn refusal(self, seqs: &[u8], lists: &[u8], out: &[u8], pkt: &[u8]) -> u8
+        ensures { λ r. ⌜ r ≡ codeOf self (now (seqs .entry)) (now (lists .entry)) (now (out .entry)) (now (pkt .entry)) ⌝ }
+    {
+        let kind = kind_of(octets::byte(pkt, 0));
+        let from_length = octets::refuse(!kind.length_good(pkt), 1, self.own_fault(kind, pkt));
+        octets::refuse(
+            lent_wrong(seqs, lists, out),
+            16,
+            octets::refuse(
+                self.out_of_range(),
+                17,
+                octets::refuse(
+                    pkt.len() == 0,
+                    1,
+                    octets::refuse(
+                        Unit::LONGEST_PACKET < pkt.len(),
+                        8,
+                        octets::refuse(
+                            kind.is_foreign(),
+                            5,
+                            octets::refuse(kind.is_unheard(), 6, from_length),
+                        ),
+                    ),
+                ),
+            ),
+        )
+    }
+}
+
+// Byte 17 of the status: 2 in the high half, 1 running or 2 stopped in the low.
+fn running_byte(on: bool) -> u8
+    ensures { λ r. ⌜ r ≡ halves 2 (running on) ⌝ }
+{
+    if on { 0x21 } else { 0x22 }
+}
+
+// A sequence's number, 0 if none.
+fn or_zero(n: u8) -> u8
+    ensures { λ r. ⌜ r ≡ orZero n ⌝ }
+{
+    if n == Runner::NONE { 0 } else { n }
+}
+
+impl Unit {
+    // The status block as far as the failed number: byte 01, the size, then 100 bytes by the paper's positions, each 4
+    // further on here.
+    fn status_head(self, time: u32) -> [u8; 104]
+        ensures { λ r. ⌜ r ≡ ((0x01 ∷ 0x00 ∷ 0x00 ∷ 0x64 ∷ []) ++ laid (replicate 100 0) (take 7 (pieces self time))) ⌝ }
+    {
+        let mut b = [0u8; 104];
+        b[0] = 0x01;
+        b[3] = 0x64;
+        b[4] = 0x10;
+        b[5] = self.control.mode % 16 * 16 + self.ledger.code % 16;
+        b[6] = (self.control.requests / 256 % 256) as u8;
+        b[7] = (self.control.requests % 256) as u8;
+        b[8] = (time / 16777216 % 256) as u8;
+        b[9] = (time / 65536 % 256) as u8;
+        b[10] = (time / 256 % 256) as u8;
+        b[11] = (time % 256) as u8;
+        b[12] = (self.ledger.received / 256 % 256) as u8;
+        b[13] = (self.ledger.received % 256) as u8;
+        b[16] = (self.ledger.failed / 256 % 256) as u8;
+        b[17] = (self.ledger.failed % 256) as u8;
+        b[18] = self.ledger.number;
+        b
+    }
+
+    // The status block, the run's bytes from 17 on laid over its head.
+    fn status_block(self, time: u32) -> [u8; 104]
+        ensures { λ r. ⌜ r ≡ statusOf self time ⌝ }
+    {
+        let mut b = self.status_head(time);
+        b[21] = running_byte(self.runner.running);
+        b[24] = or_zero(self.runner.sequence);
+        b[25] = self.runner.place;
+        b[26] = self.watch.list;
+        b[28] = (self.watch.exposures / 256 % 256) as u8;
+        b[29] = (self.watch.exposures % 256) as u8;
+        b[30] = (self.runner.mirror / 256 % 256) as u8;
+        b[31] = (self.runner.mirror % 256) as u8;
+        b[68] = self.ledger.log.bc1;
+        b[69] = self.ledger.log.bc2;
+        b[70] = self.ledger.log.bc3;
+        b[71] = self.ledger.log.size;
+        b[94] = self.watch.abort % 16 * 16;
+        b
+    }
+}
+
+// Lays an answer over the output's start and gives its length. What stands past it stays.
+fn lay(src: &[u8], out: &mut [u8]) -> usize
+    requires { ⌜ length (now src) ≤ length (now out) ⌝ }
+    ensures { λ r. ⌜ r ≡ length (now (src .entry)) ⌝ }
+    ensures { λ _. ⌜ now (out .exit) ≡ now (src .entry) ++ drop (length (now (src .entry))) (now (out .entry)) ⌝ }
+{
+    bytes::copy(src, out)
+}
+
+// A range's own bytes in its table; a wrong range has none.
+fn part_of<'a>(seqs: &'a [u8], lists: &'a [u8], len: usize, range: Range) -> &'a [u8]
+    ensures { λ r. ⌜ now r ≡ partOf (now (seqs .entry)) (now (lists .entry)) len range ⌝ }
+{
+    match range {
+        Range::Sequences(at) => octets::part(seqs, at, len),
+        Range::LineLists(at) => octets::part(lists, at, len),
+        Range::Wrong => &seqs[..0],
+    }
+}
+
+// The bytes that a dump names.
+fn dumped<'a>(seqs: &'a [u8], lists: &'a [u8], pkt: &[u8]) -> &'a [u8]
+    ensures { λ r. ⌜ now r ≡ partOf (now (seqs .entry)) (now (lists .entry)) (tripleAt (now (pkt .entry)) 4) (dumpRange (now (pkt .entry))) ⌝ }
+{
+    part_of(
+        seqs,
+        lists,
+        octets::triple(pkt, 4) as usize,
+        dump_range(pkt),
+    )
+}
+
+impl Unit {
+    // Lays what answers an obeyed packet over the output's start and gives its length.
+    fn reply<'a>(
+        self,
+        kind: Kind,
+        seqs: &'a [u8],
+        lists: &'a [u8],
+        out: &mut [u8],
+        time: u32,
+        pkt: &[u8],
+    ) -> usize
+        requires { ⌜ 16384 ≤ length (now out) ⌝ }
+        ensures { λ r. ⌜ r ≡ length (reply kind self time (now (seqs .entry)) (now (lists .entry)) (now (pkt .entry))) ⌝ }
+        ensures { λ _. ⌜ now (out .exit) ≡ reply kind self time (now (seqs .entry)) (now (lists .entry)) (now (pkt .entry)) ++ drop (length (reply kind self time (now (seqs .entry)) (now (lists .entry)) (now (pkt .entry)))) (now (out .entry)) ⌝ }
+    {
+        match kind {
+            Kind::Status => {
+                let block = self.asked().status_block(time);
+                lay(&block, out)
+            }
+            Kind::Dump => lay(dumped(seqs, lists, pkt), out),
+            Kind::Allow => 0,
+            Kind::Mode => 0,
+            Kind::Clear => 0,
+            Kind::Select => 0,
+            Kind::Uplink => 0,
+            Kind::Foreign => 0,
+            Kind::Unheard => 0,
+        }
+    }
+
+    // The unit after an obeyed packet.
+    fn obeyed(self, kind: Kind, pkt: &[u8]) -> Unit
+        ensures { λ r. ⌜ r ≡ obeyedUnit kind (now (pkt .entry)) self ⌝ }
+    {
+        let logged = self.logged(pkt);
+        match kind {
+            Kind::Status => self.asked(),
+            Kind::Dump => logged,
+            Kind::Allow => logged.allowed(),
+            Kind::Mode => logged.moded(octets::byte(pkt, 1)),
+            Kind::Clear => logged.cleared(),
+            Kind::Select => logged.selected(octets::byte(pkt, 1)),
+            Kind::Uplink => logged,
+            Kind::Foreign => logged,
+            Kind::Unheard => logged,
+        }
+    }
+
+    // The unit after a refused packet: 16 and 17 change nothing.
+    fn refused(self, code: u8, pkt: &[u8]) -> Unit
+        ensures { λ r. ⌜ r ≡ refusedUnit code (now (pkt .entry)) self ⌝ }
+    {
+        if 16 <= code {
+            return self;
+        }
+        let old = self.ledger;
+        let ledger = old.failed(pkt, code);
+        let mut unit = self;
+        unit.ledger = ledger;
+        unit
+    }
+}
+
+// Writes an uplink's data into its range; another command writes nothing.
+fn uplink(kind: Kind, seqs: &mut [u8], lists: &mut [u8], pkt: &[u8])
+    ensures { λ _. ⌜ now (seqs .exit) ≡ obeyedSeqs kind (now (pkt .entry)) (now (seqs .entry)) ⌝ }
+    ensures { λ _. ⌜ now (lists .exit) ≡ obeyedLists kind (now (pkt .entry)) (now (lists .entry)) ⌝ }
+{
+    match kind {
+        Kind::Status => {}
+        Kind::Dump => {}
+        Kind::Allow => {}
+        Kind::Mode => {}
+        Kind::Clear => {}
+        Kind::Select => {}
+        Kind::Uplink => {
+            memory::write_range(
+                seqs,
+                lists,
+                uplink_range(pkt),
+                octets::part(pkt, 5, pkt.len()),
+            );
+        }
+        Kind::Foreign => {}
+        Kind::Unheard => {}
+    }
+}
+
+impl Unit {
+    // One packet: its answer, with the unit, the tables and the output after it.
+    pub fn packet(
+        self,
+        seqs: &mut [u8],
+        lists: &mut [u8],
+        out: &mut [u8],
+        time: u32,
+        pkt: &[u8],
+    ) -> Answer
+        ensures { λ r. ⌜ r ≡ answerOf self time (now (seqs .entry)) (now (lists .entry)) (now (out .entry)) (now (pkt .entry)) ⌝ }
+        ensures { λ _. ⌜ now (seqs .exit) ≡ seqsAfter self (now (seqs .entry)) (now (lists .entry)) (now (out .entry)) (now (pkt .entry)) ⌝ }
+        ensures { λ _. ⌜ now (lists .exit) ≡ listsAfter self (now (seqs .entry)) (now (lists .entry)) (now (out .entry)) (now (pkt .entry)) ⌝ }
+        ensures { λ _. ⌜ now (out .exit) ≡ outAfter self time (now (seqs .entry)) (now (lists .entry)) (now (out .entry)) (now (pkt .entry)) ⌝ }
+    {
+        let code = self.refusal(seqs, lists, out, pkt);
+        if code != 0 {
+            let unit = self.refused(code, pkt);
+            return Answer {
+                code,
+                length: 0,
+                unit,
+            };
+        }
+        let kind = kind_of(octets::byte(pkt, 0));
+        let length = self.reply(kind, seqs, lists, out, time, pkt);
+        uplink(kind, seqs, lists, pkt);
+        let unit = self.obeyed(kind, pkt);
+        Answer {
+            code: 0,
+            length,
+            unit,
+        }
+    }
+}
+
+// The code beside the part that the desk asks for: 16 for wrong tables, then 7, else 0.
+pub fn window_code(seqs: &[u8], lists: &[u8], address: u32, len: usize) -> u8
+    ensures { λ r. ⌜ r ≡ windowCode (now (seqs .entry)) (now (lists .entry)) address len ⌝ }
+{
+    memory::window_code(seqs, lists, address, len)
+}
+
+// The part that the desk asks for: the table's own bytes, or the empty part where the code is not 0.
+pub fn window<'a>(seqs: &'a [u8], lists: &'a [u8], address: u32, len: usize) -> &'a [u8]
+    ensures { λ r. ⌜ now r ≡ windowPart (now (seqs .entry)) (now (lists .entry)) address len ⌝ }
+{
+    memory::window(seqs, lists, address, len)
+}
+
+// What the status takes from a step's event: the line list, the count of exposures, the abort code.
+fn watched(event: Event, watch: Watch) -> Watch
+    ensures { λ r. ⌜ r ≡ watched event watch ⌝ }
+{
+    let mut after = watch;
+    match event {
+        Event::Idle => watch,
+        Event::Enter(_) => watch,
+        Event::Raster(_, _, list) => {
+            after.list = list;
+            after
+        }
+        Event::Exp(_) => {
+            after.exposures = counted(watch.exposures);
+            after
+        }
+        Event::Loop(_) => watch,
+        Event::Next => watch,
+        Event::Done => watch,
+        Event::Wait(_) => watch,
+        Event::Call(_) => watch,
+        Event::End => watch,
+        Event::Abort(code, _, _) => {
+            after.abort = code;
+            after
+        }
+    }
+}
+
+impl Unit {
+    // The runner's step taken into the unit.
+    fn taken(self, stepped: Stepped) -> UnitStep
+        ensures { λ r. ⌜ r ≡ taken self stepped ⌝ }
+    {
+        let event = stepped.event;
+        let runner = stepped.runner;
+        let ledger = self.ledger;
+        let control = self.control;
+        let watch = watched(event, self.watch);
+        UnitStep {
+            outcome: Outcome::Saw(event),
+            unit: Unit {
+                ledger,
+                control,
+                watch,
+                runner,
+            },
+        }
+    }
+
+    // What a step is refused with: 16, then 17.
+    fn step_fault(self, seqs: &[u8], lists: &[u8]) -> u8
+        ensures { λ r. ⌜ r ≡ firstCode (stepRows self (now (seqs .entry)) (now (lists .entry))) ⌝ }
+    {
+        octets::refuse(
+            memory::tables_wrong(seqs, lists),
+            16,
+            octets::refuse(self.out_of_range(), 17, 0),
+        )
+    }
+
+    // One step of the unit: 16, then 17, else the runner's step and what the status takes from its event.
+    pub fn step(self, seqs: &[u8], lists: &[u8]) -> UnitStep
+        ensures { λ r. ⌜ r ≡ unitStep self (now (seqs .entry)) (now (lists .entry)) ⌝ }
+    {
+        let code = self.step_fault(seqs, lists);
+        if code != 0 {
+            return UnitStep {
+                outcome: Outcome::Denied(code),
+                unit: self,
+            };
+        }
+        let runner = self.runner;
+        self.taken(runner.step(seqs, lists))
     }
 }

@@ -1,0 +1,71 @@
+/*
+ * made script SEED LINES: a script for the desk program, as an operator in a hurry types it.
+ * made tables SEED: both tables, 24,256 raw bytes, for the table check at the desk.
+ */
+#include "make.h"
+#include "plain.h"
+
+#include <stdio.h>
+#include <stdlib.h>
+#include <string.h>
+
+static uint8_t state[PLAIN_STATE];
+static uint8_t seqs[PLAIN_SEQUENCES];
+static uint8_t lists[PLAIN_LINE_LISTS];
+static uint8_t out[PLAIN_OUTPUT];
+
+static void print_packet(const uint8_t *packet, size_t length)
+{
+    const char *byte = chance(80) ? "%02X" : "%02x";
+    for (size_t i = 0; i < length; i++)
+        printf(byte, packet[i]);
+    printf("\n");
+}
+
+static void print_bad(void)
+{
+    static const char *const lines[] = {"STEP", "STEP 0", "STEP 01", "STEP 65536", "STEP +1", "step 1", "STEP 1 ",
+                                        " 01", "01 ", "0", "0x01", "2 1", "G0", "01\t", "01\r", "STEP  1"};
+    puts(lines[any(sizeof lines / sizeof *lines)]);
+}
+
+/* The unit itself is run along, so that what comes next suits it. */
+static void print_script(unsigned long lines)
+{
+    uint8_t packet[MAKE_LONGEST];
+
+    make_taste(8, 3);
+    plain_power_on(state, sizeof state);
+    while (lines-- > 0) {
+        unsigned steps;
+        size_t length = make_turn(state, packet, &steps);
+        if (chance(1)) {
+            print_bad();
+        } else if (steps > 0) {
+            printf("STEP %u\n", steps);
+            while (steps-- > 0)
+                plain_step(state, sizeof state, seqs, sizeof seqs, lists, sizeof lists);
+        } else {
+            print_packet(packet, length);
+            plain_packet(state, sizeof state, seqs, sizeof seqs, lists, sizeof lists, out, sizeof out, 0, packet,
+                         length);
+        }
+    }
+}
+
+int main(int argc, char **argv)
+{
+    if (argc == 4 && strcmp(argv[1], "script") == 0) {
+        make_seed(strtoul(argv[2], NULL, 10));
+        print_script(strtoul(argv[3], NULL, 10));
+    } else if (argc == 3 && strcmp(argv[1], "tables") == 0) {
+        make_seed(strtoul(argv[2], NULL, 10));
+        make_tables(seqs, lists);
+        fwrite(seqs, 1, sizeof seqs, stdout);
+        fwrite(lists, 1, sizeof lists, stdout);
+    } else {
+        fputs("usage: made script SEED LINES | made tables SEED\n", stderr);
+        return 2;
+    }
+    return 0;
+}

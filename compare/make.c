@@ -1,0 +1,610 @@
+#include "make.h"
+
+#include <string.h>
+
+enum { ENTRY = 128, LIST_ENTRY = 164, SEQUENCES = 128, LISTS = 48, NONE = 255, END_STOP = 2400 };
+
+/* The last place at which a closing command of two bytes fits before the checksum. */
+enum { LAST_CLOSING = ENTRY - 3 };
+
+/* ---- Chance ---- */
+
+static uint64_t source;
+
+void make_seed(uint64_t seed)
+{
+    source = seed;
+}
+
+static uint64_t noise(void)
+{
+    uint64_t z = source += 0x9E3779B97F4A7C15u;
+    z = (z ^ z >> 30) * 0xBF58476D1CE4E5B9u;
+    z = (z ^ z >> 27) * 0x94D049BB133111EBu;
+    return z ^ z >> 31;
+}
+
+uint32_t any(uint32_t n)
+{
+    return (uint32_t)((noise() >> 32) * n >> 32);
+}
+
+bool chance(unsigned percent)
+{
+    return any(100) < percent;
+}
+
+static unsigned between(unsigned low, unsigned high)
+{
+    return low + any(high - low + 1);
+}
+
+static void noise_at(uint8_t *to, size_t n)
+{
+    for (size_t i = 0; i < n; i++)
+        to[i] = (uint8_t)any(256);
+}
+
+static void word_at(uint8_t *to, unsigned value)
+{
+    to[0] = (uint8_t)(value >> 8);
+    to[1] = (uint8_t)value;
+}
+
+static uint8_t xor_over(const uint8_t *p, size_t n)
+{
+    uint8_t sum = 0;
+    while (n-- > 0)
+        sum ^= *p++;
+    return sum;
+}
+
+/* ---- Line lists ---- */
+
+size_t make_line_list(uint8_t *list, unsigned damage)
+{
+    unsigned windows = between(1, 25), length;
+
+    if (chance(damage))
+        windows = chance(50) ? 26 : any(2) * 255;
+    noise_at(list, LIST_ENTRY);
+    length = (14 + 6 * windows) & 0xFF;
+    if (chance(damage))
+        length = (length + (chance(50) ? 1 : 255)) & 0xFF;
+    list[0] = (uint8_t)length;
+    if (length > LIST_ENTRY)
+        length = LIST_ENTRY;
+    list[2] = (uint8_t)windows;
+    list[3] = 0;
+    list[3] = xor_over(list, length);
+    if (chance(damage))
+        list[any(LIST_ENTRY)] ^= (uint8_t)(1 << any(8));
+    return length;
+}
+
+/* A list of 26 windows reaches into the next entry: makes its checksum right over both. */
+static void mend_long_list(uint8_t *list)
+{
+    if (list[2] == 26 && list[0] == 14 + 6 * 26)
+        list[3] ^= xor_over(list, list[0]);
+}
+
+/* ---- Sequences ---- */
+
+/* What the closing commands of a table do. */
+enum calls { MOSTLY_END, RING, SCATTERED_RING, ANYWHERE, ITSELF, CALL_KINDS };
+
+static struct {
+    enum calls calls;
+    bool large;         /* counts up to their largest */
+    unsigned sequences; /* how many of each are used */
+    unsigned lists;
+} taste;
+
+void make_taste(unsigned sequences, unsigned lists)
+{
+    taste.calls = (enum calls)any(CALL_KINDS);
+    taste.large = chance(30);
+    taste.sequences = sequences;
+    taste.lists = lists;
+}
+
+static unsigned few_or_many(unsigned few, unsigned most)
+{
+    return taste.large && chance(30) ? between(1, most) : between(1, few);
+}
+
+/* A run raster's 23 bytes. */
+static void put_run_raster(uint8_t *r, unsigned exposures, unsigned damage)
+{
+    static const uint8_t flags[] = {0, 0, 0, 0x20, 0x10, 0x08, 0x04};
+    static const uint8_t two_flags[] = {0x30, 0x18, 0x0C, 0x24, 0x3C, 0x28};
+    unsigned loops = few_or_many(4, 65535);
+    unsigned repeats = few_or_many(3, 4095);
+    unsigned step = chance(20) ? 0 : any(END_STOP / loops + 1);
+    unsigned furthest = END_STOP - (loops - 1) * step;
+    unsigned initial = chance(20) ? furthest : any(furthest + 1);
+    unsigned list = any(taste.lists), asrc = 0, flag = flags[any(sizeof flags)];
+
+    if (chance(damage))
+        loops = 0;
+    if (chance(damage))
+        repeats = 0;
+    if (chance(damage))
+        exposures = chance(50) ? 0 : between(9, 15);
+    if (chance(damage))
+        list = chance(50) ? LISTS : between(LISTS, 255);
+    if (chance(damage))
+        initial = chance(70) ? furthest + 1 : between(END_STOP + 1, 65535);
+    if (chance(damage))
+        step = chance(50) ? END_STOP + 1 : between(END_STOP, 65535);
+    if (chance(damage))
+        asrc = between(1, 255);
+    if (chance(damage))
+        flag = two_flags[any(sizeof two_flags)];
+
+    noise_at(r, 23);
+    r[0] = 0x90;
+    if (chance(10))
+        r[1 + any(2)] = 0x90;
+    word_at(r + 3, initial);
+    word_at(r + 5, loops);
+    r[13] = (uint8_t)((r[13] & 0xF0) | exposures);
+    r[14] = (uint8_t)asrc;
+    word_at(r + 15, any(16) << 12 | repeats);
+    word_at(r + 19, step);
+    r[21] = (uint8_t)list;
+    r[22] = (uint8_t)((r[22] & 0xC3) | flag);
+}
+
+static unsigned put_delay(uint8_t *text, unsigned at)
+{
+    text[at] = 0x95;
+    word_at(text + at + 1, any(65536));
+    return at + 3;
+}
+
+static unsigned put_expose(uint8_t *text, unsigned at, unsigned damage)
+{
+    text[at] = 0x91;
+    word_at(text + at + 1, chance(damage) ? 0 : between(1, 65535));
+    if (chance(5))
+        text[at + 1 + any(2)] = 0x92;
+    return at + 3;
+}
+
+/* A raster from its run raster to its loop back, at most 95 bytes; returns the place after it. */
+static unsigned put_raster(uint8_t *text, unsigned at, unsigned damage)
+{
+    unsigned exposures = chance(80) ? between(1, 3) : between(1, 8);
+    unsigned made = exposures, raster = at, before = chance(50) ? 0 : between(1, 2), target, first;
+
+    put_run_raster(text + at, exposures, damage);
+    at += 23;
+    if (chance(damage))
+        made += chance(50) ? 1 : -1u;
+    first = at + 3 * before;
+    target = at + 3 * any(before + 1);
+    while (before-- > 0)
+        at = put_delay(text, at);
+    for (unsigned i = 0; i < made; i++) {
+        at = put_expose(text, at, damage);
+        if (chance(15) && i < 6)
+            at = put_delay(text, at);
+    }
+    if (chance(damage)) {
+        switch (any(6)) {
+        case 0: target = raster; break;
+        case 1: target = first + 3; break;
+        case 2: target += 1 + any(2); break;
+        case 3: target = at; break;
+        case 4: target = any(256); break;
+        default: target = raster + any(23);
+        }
+    }
+    if (!chance(damage)) {
+        text[at++] = 0x92;
+        text[at++] = (uint8_t)target;
+    }
+    return at;
+}
+
+static unsigned put_call(uint8_t *text, unsigned at, unsigned target)
+{
+    text[at] = 0x93;
+    text[at + 1] = (uint8_t)target;
+    return at + 2;
+}
+
+static unsigned put_closing(uint8_t *text, unsigned at, unsigned own, unsigned damage)
+{
+    if (chance(damage))
+        return at;
+    if (chance(damage))
+        return put_call(text, at, chance(50) ? SEQUENCES : between(SEQUENCES, 255));
+    switch (taste.calls) {
+    case RING:
+        return put_call(text, at, (own + 1) % taste.sequences);
+    case SCATTERED_RING:
+        return put_call(text, at, (5 * own + 3) % taste.sequences);
+    case ANYWHERE:
+        return put_call(text, at, any(taste.sequences));
+    case ITSELF:
+        if (chance(50))
+            return put_call(text, at, own);
+        break;
+    default:
+        if (chance(40))
+            return put_call(text, at, any(taste.sequences));
+    }
+    text[at] = 0x94;
+    return at + 1;
+}
+
+/* Commands in no order at all, with parameters that may fit or not. */
+static unsigned put_jumble(uint8_t *text, unsigned at)
+{
+    unsigned end = between(6, LAST_CLOSING), n = 0;
+    uint8_t starts[ENTRY];
+
+    while (at < end) {
+        starts[n++] = (uint8_t)at;
+        switch (any(12)) {
+        case 0: case 1: put_run_raster(text + at, between(1, 3), 5); at += 23; break;
+        case 2: case 3: case 4: case 5: at = put_expose(text, at, 5); break;
+        case 6: case 7:
+            text[at++] = 0x92;
+            text[at++] = chance(80) ? starts[any(n)] : (uint8_t)any(end);
+            break;
+        case 8: at = put_call(text, at, any(140)); break;
+        case 9: text[at++] = 0x94; break;
+        case 10: text[at++] = (uint8_t)any(256); break;
+        default: at = put_delay(text, at);
+        }
+    }
+    return at < ENTRY ? at : ENTRY - 1;
+}
+
+static unsigned put_commands(uint8_t *text, unsigned own, unsigned damage)
+{
+    unsigned at = 4;
+
+    while (!chance(20)) {
+        unsigned next = chance(30) ? put_delay(text, at) : put_raster(text, at, damage);
+        if (next > LAST_CLOSING)
+            break;
+        at = next;
+    }
+    at = put_closing(text, at, own, damage);
+    if (chance(damage) && at < ENTRY - 1)
+        text[at++] = (uint8_t)(chance(50) ? 0x94 : any(256));
+    return at;
+}
+
+size_t make_sequence(uint8_t *entry, unsigned own, unsigned damage)
+{
+    uint8_t text[2 * ENTRY + 64];
+    unsigned length;
+
+    noise_at(text, sizeof text);
+    if (chance(damage / 3)) {
+        memset(entry, 0, ENTRY);
+        if (chance(50))
+            noise_at(entry, ENTRY);
+        return ENTRY;
+    }
+    length = 1 + (chance(damage) ? put_jumble(text, 4) : put_commands(text, own, damage));
+    text[0] = (uint8_t)length;
+    text[3] = (uint8_t)(chance(damage) ? 0 : few_or_many(3, 255));
+    if (chance(damage / 2))
+        text[0] = (uint8_t)(chance(50) ? any(256) : length + 2 * any(2) - 1);
+    if (chance(damage))
+        text[any(length)] = (uint8_t)any(256);
+    if (text[0] > 0 && text[0] <= ENTRY)
+        text[text[0] - 1] = xor_over(text, text[0] - 1u);
+    if (chance(damage))
+        text[any(length)] ^= (uint8_t)(1 << any(8));
+    memcpy(entry, text, ENTRY);
+    return length;
+}
+
+void make_tables(uint8_t *seqs, uint8_t *lists)
+{
+    static const uint8_t damages[] = {0, 0, 1, 1, 3, 10, 30};
+    unsigned damage = damages[any(sizeof damages)];
+
+    make_taste(SEQUENCES, LISTS);
+    for (unsigned i = 0; i < LISTS; i++)
+        make_line_list(lists + LIST_ENTRY * i, damage / 2);
+    for (unsigned i = 0; i + 1 < LISTS; i++)
+        mend_long_list(lists + LIST_ENTRY * i);
+    for (unsigned i = 0; i < SEQUENCES; i++)
+        make_sequence(seqs + ENTRY * i, i, damage);
+}
+
+/* ---- States ---- */
+
+/* The state's bytes, as keel.h lays them out. */
+enum {
+    MODE = 0, ALLOWED = 1, COUNTERS = 2, FAILED_CODE = 8, ABORT_CODE = 10, SELECTION = 15, SEQUENCE = 16,
+    PLACE = 17, LINE_LIST = 18, EXPOSURES = 19, MIRROR = 21, RUNNING = 23, ENTERING = 24, RASTER = 25,
+    SET = 26, PASSES = 27, REPEATS = 29, ROUNDS = 31, STATE = 32
+};
+
+/* Anything in range. */
+static void state_in_range(uint8_t *s)
+{
+    noise_at(s, STATE);
+    if (chance(10))
+        memset(s + COUNTERS, 0xFF, 6);
+    if (chance(10))
+        word_at(s + EXPOSURES, 65535);
+    s[MODE] = (uint8_t)between(1, 3);
+    s[ALLOWED] = (uint8_t)any(2);
+    s[FAILED_CODE] &= 15;
+    s[ABORT_CODE] &= 15;
+    s[SELECTION] = (uint8_t)(chance(20) ? NONE : any(SEQUENCES));
+    s[SEQUENCE] = (uint8_t)(chance(20) ? NONE : any(SEQUENCES));
+    s[PLACE] = (uint8_t)any(ENTRY);
+    s[LINE_LIST] = (uint8_t)any(LISTS);
+    word_at(s + MIRROR, any(END_STOP + 1));
+    s[RUNNING] = (uint8_t)(s[MODE] == 3 && s[SELECTION] != NONE && s[SEQUENCE] != NONE && chance(70));
+    s[ENTERING] = (uint8_t)any(2);
+    s[RASTER] = (uint8_t)(chance(40) ? NONE : any(ENTRY));
+    s[SET] = (uint8_t)any(9);
+}
+
+static unsigned count_left(unsigned most)
+{
+    return chance(80) ? any(4) : any(most + 1);
+}
+
+/* A place where this number stands, be it a command's start or not; 4 if there is none. */
+static uint8_t some_place_of(const uint8_t *text, unsigned end, uint8_t number)
+{
+    uint8_t places[ENTRY] = {4};
+    unsigned n = 0;
+    for (unsigned at = 0; at < end; at++)
+        if (text[at] == number)
+            places[n++] = (uint8_t)at;
+    return places[n > 0 ? any(n) : 0];
+}
+
+/* Running at some command of a sequence, with a raster open or not. */
+static void state_in_text(uint8_t *s, const uint8_t *seqs)
+{
+    static const uint8_t sizes[] = {23, 3, 2, 2, 1, 3};
+    const uint8_t *text;
+    uint8_t starts[ENTRY];
+    unsigned n = 0, raster = NONE, chosen, end;
+
+    state_in_range(s);
+    s[MODE] = 3;
+    s[RUNNING] = 1;
+    s[ENTERING] = (uint8_t)chance(5);
+    s[SELECTION] = (uint8_t)any(SEQUENCES);
+    s[SEQUENCE] = (uint8_t)any(SEQUENCES);
+    text = seqs + ENTRY * s[SEQUENCE];
+    end = text[0] >= 6 && text[0] <= ENTRY ? text[0] : ENTRY;
+    for (unsigned at = 4; at < end; at += text[at] >= 0x90 && text[at] <= 0x95 ? sizes[text[at] - 0x90] : 1)
+        starts[n++] = (uint8_t)at;
+    chosen = any(n);
+    s[PLACE] = starts[chosen];
+    /* The raster that a run would have open here: the last one begun and not yet looped back. */
+    for (unsigned i = 0; i < chosen; i++) {
+        if (text[starts[i]] == 0x90)
+            raster = starts[i];
+        else if (text[starts[i]] == 0x92)
+            raster = NONE;
+    }
+    if (text[s[PLACE]] == 0x90 && chance(40))
+        raster = s[PLACE];
+    s[RASTER] = (uint8_t)raster;
+    if (raster != NONE) {
+        unsigned exposures = raster + 13 < ENTRY ? text[raster + 13] & 15 : 1, made = 0;
+        for (unsigned i = 0; i < chosen; i++)
+            made += starts[i] > raster && text[starts[i]] == 0x91;
+        s[SET] = (uint8_t)(chance(80) ? made : chance(50) ? exposures : any(9));
+        if (s[SET] > 8)
+            s[SET] = 8;
+        if (chance(70))
+            word_at(s + MIRROR, any(END_STOP + 1));
+        else
+            word_at(s + MIRROR, END_STOP - any(20));
+    }
+    word_at(s + PASSES, count_left(65535));
+    word_at(s + REPEATS, count_left(65535));
+    s[ROUNDS] = (uint8_t)count_left(255);
+    if (chance(10))
+        s[PLACE] = chance(50) ? (uint8_t)any(ENTRY) : some_place_of(text, end, 0x92);
+    if (chance(10))
+        s[RASTER] = chance(50) ? (uint8_t)any(ENTRY) : starts[any(n)];
+    if (chance(10))
+        s[RASTER] = some_place_of(text, end, 0x90);
+    if (chance(5))
+        s[RASTER] = NONE;
+}
+
+/* One field just out of its range. */
+static void put_out_of_range(uint8_t *s)
+{
+    switch (any(13)) {
+    case 0: s[MODE] = 0; break;
+    case 1: s[MODE] = (uint8_t)between(4, 255); break;
+    case 2: s[ALLOWED] = (uint8_t)between(2, 255); break;
+    case 3: s[FAILED_CODE] = (uint8_t)between(16, 255); break;
+    case 4: s[ABORT_CODE] = (uint8_t)between(16, 255); break;
+    case 5: s[SELECTION] = (uint8_t)(chance(50) ? 128 : between(128, 255)); break;
+    case 6: s[SEQUENCE] = (uint8_t)(chance(50) ? 128 : between(128, 255)); break;
+    case 7: s[PLACE] = (uint8_t)(chance(50) ? 128 : between(128, 255)); break;
+    case 8: s[LINE_LIST] = (uint8_t)(chance(50) ? 48 : between(48, 255)); break;
+    case 9: word_at(s + MIRROR, chance(50) ? END_STOP + 1 : between(END_STOP, 65535)); break;
+    case 10: s[chance(50) ? RUNNING : ENTERING] = (uint8_t)between(1, 255); break;
+    case 11: s[RASTER] = (uint8_t)(chance(50) ? 128 : between(128, 255)); break;
+    default: s[SET] = (uint8_t)(chance(50) ? 9 : between(9, 255));
+    }
+}
+
+void make_state(uint8_t *state, const uint8_t *seqs)
+{
+    switch (any(10)) {
+    case 0:
+        noise_at(state, STATE);
+        break;
+    case 1:
+    case 2:
+        state_in_range(state);
+        break;
+    default:
+        state_in_text(state, seqs);
+    }
+    if (chance(10))
+        put_out_of_range(state);
+}
+
+/* ---- Packets ---- */
+
+static size_t packet_2(uint8_t *p, unsigned number, unsigned value)
+{
+    p[0] = (uint8_t)number;
+    p[1] = (uint8_t)value;
+    return 2;
+}
+
+static void put_address(uint8_t *to, unsigned address)
+{
+    to[0] = (uint8_t)(address >> 16);
+    word_at(to + 1, address & 0xFFFF);
+}
+
+/* An address near a border of the tables, at an entry, or anywhere. */
+static unsigned some_address(void)
+{
+    static const unsigned borders[] = {0x070000, 0x073F80, 0x074000, 0x075E1C, 0x075EC0};
+    if (chance(40))
+        return borders[any(5)] + any(6) - 3;
+    if (chance(50))
+        return 0x070000 + ENTRY * any(SEQUENCES + 2);
+    return chance(80) ? 0x070000 + any(0x5F00) : any(0x1000000);
+}
+
+/* A count that fits before a border, just does not, or is any. */
+static unsigned some_count(unsigned address, unsigned most)
+{
+    unsigned end = address < 0x074000 ? 0x074000 : 0x075EC0;
+    if (chance(30) && end > address && end - address <= most)
+        return end - address + any(3) - 1;
+    return chance(80) ? between(1, most) : any(2) * (most + any(2));
+}
+
+static size_t dump_packet(uint8_t *p)
+{
+    unsigned address = some_address();
+    p[0] = 0x07;
+    put_address(p + 1, address);
+    put_address(p + 4, chance(3) ? any(0x1000000) : some_count(address, chance(10) ? 16384 : 300));
+    return 7;
+}
+
+static size_t uplink_packet(uint8_t *p)
+{
+    uint8_t entry[LIST_ENTRY];
+    unsigned address, count;
+
+    p[0] = 0xE7;
+    noise_at(p + 5, 128);
+    if (chance(60)) {
+        unsigned own = any(taste.sequences);
+        address = 0x070000 + ENTRY * own;
+        count = (unsigned)make_sequence(entry, own, 3);
+        memcpy(p + 5, entry, count);
+    } else if (chance(50)) {
+        address = 0x074000 + LIST_ENTRY * any(taste.lists);
+        do
+            count = (unsigned)make_line_list(entry, 3);
+        while (count > 128);
+        memcpy(p + 5, entry, count);
+    } else {
+        address = some_address();
+        count = some_count(address, 128);
+        count = count <= 128 ? count : 128;
+    }
+    put_address(p + 1, address);
+    p[4] = (uint8_t)count;
+    return 5 + count;
+}
+
+static unsigned some_mode(void)
+{
+    return chance(85) ? between(0, 6) : any(256);
+}
+
+static size_t good_packet(uint8_t *p)
+{
+    switch (any(12)) {
+    case 0: p[0] = 0x01; return 1;
+    case 1: case 2: return dump_packet(p);
+    case 3: return packet_2(p, 0x20, any(256)) - any(2);
+    case 4: case 5: case 6: return packet_2(p, 0x21, some_mode());
+    case 7: p[0] = 0x23; return 1;
+    case 8: case 9: return packet_2(p, 0x83, chance(80) ? any(130) : any(256));
+    default: return uplink_packet(p);
+    }
+}
+
+size_t make_packet(uint8_t *p)
+{
+    static const uint8_t known[] = {0x01, 0x07, 0x20, 0x21, 0x23, 0x83, 0xE7};
+    size_t length;
+
+    noise_at(p, MAKE_LONGEST);
+    switch (any(10)) {
+    case 0: /* any number, a few bytes */
+        return any(9);
+    case 1: /* a known number, any length */
+        p[0] = known[any(sizeof known)];
+        return chance(70) ? any(10) : between(128, 140);
+    case 2: /* about the longest */
+        if (chance(50))
+            p[0] = known[any(sizeof known)];
+        length = chance(80) ? between(131, 141) : between(134, MAKE_LONGEST);
+        if (chance(50))
+            p[4] = (uint8_t)(length - 5);
+        return length;
+    case 3: /* a good one, a byte more or less */
+        length = good_packet(p);
+        return length + 2 * any(2) - 1;
+    default:
+        return good_packet(p);
+    }
+}
+
+size_t make_turn(const uint8_t *state, uint8_t *p, unsigned *steps)
+{
+    *steps = 0;
+    if (chance(8))
+        return make_packet(p);
+    if (chance(8)) {
+        p[0] = 0x01;
+        return 1;
+    }
+    if (state[RUNNING] && chance(97)) {
+        *steps = chance(90) ? between(1, 12) : between(1, 300);
+        return 0;
+    }
+    if (!state[ALLOWED])
+        return packet_2(p, 0x20, 0) - 1;
+    switch (state[MODE]) {
+    case 1:
+        return chance(70) ? packet_2(p, 0x21, 2) : uplink_packet(p);
+    case 2:
+        if (chance(40))
+            return uplink_packet(p);
+        if (chance(40))
+            return packet_2(p, 0x83, any(taste.sequences));
+        return packet_2(p, 0x21, chance(90) ? 3 : 1);
+    default:
+        *steps = chance(30);
+        return packet_2(p, 0x21, 2);
+    }
+}

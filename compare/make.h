@@ -1,0 +1,44 @@
+/*
+ * Random tables, states and packets for the driver and the desk scripts. Most are meaningful:
+ * sequences with rasters, delays, loops and calls that run to their end; the rest are damaged in
+ * small ways or are plain noise. Everything follows from the seed.
+ */
+#ifndef MAKE_H
+#define MAKE_H
+
+#include <stdbool.h>
+#include <stddef.h>
+#include <stdint.h>
+
+enum { MAKE_LONGEST = 300 }; /* the longest packet that is made */
+
+void make_seed(uint64_t seed);
+
+/* A number below n. */
+uint32_t any(uint32_t n);
+
+/* True in so many cases of a hundred. */
+bool chance(unsigned percent);
+
+/* Chooses how sequences call one another and how many of each table's entries are in use. */
+void make_taste(unsigned sequences, unsigned lists);
+
+/* Both tables whole, to a taste of their own. */
+void make_tables(uint8_t *seqs, uint8_t *lists);
+
+/* One line list in an entry of 164 bytes, one sequence in an entry of 128; both return its length. */
+size_t make_line_list(uint8_t *list, unsigned damage);
+size_t make_sequence(uint8_t *text, unsigned own, unsigned damage);
+
+/* The 32 bytes of a state: reached ones, ones that stand somewhere in these tables' sequences, ones
+ * in range that no call makes, ones out of range. */
+void make_state(uint8_t *state, const uint8_t *seqs);
+
+/* A packet of any kind; returns its length. */
+size_t make_packet(uint8_t *packet);
+
+/* What a busy operator does next with a unit in this state: steps, if *steps is not 0, else a packet
+ * of the length returned. */
+size_t make_turn(const uint8_t *state, uint8_t *packet, unsigned *steps);
+
+#endif

@@ -1,0 +1,748 @@
+#include "plain.h"
+
+#include <stdbool.h>
+#include <string.h>
+
+/* The state's bytes. Words are high byte first. */
+enum {
+    MODE = 0,
+    CHANGES_ALLOWED = 1,
+    STATUS_PC = 2,
+    RECEIVED = 4,
+    FAILED = 6,
+    FAILED_CODE = 8,
+    FAILED_NUMBER = 9,
+    ABORT_CODE = 10,
+    LOG = 11,
+    SELECTION = 15,
+    SEQUENCE = 16,
+    PLACE = 17,
+    LINE_LIST = 18,
+    EXPOSURES = 19,
+    MIRROR = 21,
+    RUNNING = 23,
+    ENTERING = 24,
+    RASTER = 25,
+    SET = 26,
+    PASSES = 27,
+    REPEATS = 29,
+    ROUNDS = 31
+};
+
+enum { NONE = 255 };
+enum { STANDBY = 1, MANUAL = 2, AUTO = 3, LAST_MODE = 5 };
+
+/* The tables in memory. */
+enum {
+    SEQUENCES_AT = 0x070000,
+    SEQUENCES_END = SEQUENCES_AT + PLAIN_SEQUENCES,
+    LINE_LISTS_AT = SEQUENCES_END,
+    LINE_LISTS_END = LINE_LISTS_AT + PLAIN_LINE_LISTS,
+    ENTRY = 128,
+    LAST_SEQUENCE = 127,
+    LINE_LIST_ENTRY = 164,
+    LAST_LINE_LIST = 47
+};
+
+/* Packets. */
+enum {
+    GET_STATUS = 0x01,
+    DUMP = 0x07,
+    ALLOW_CHANGES = 0x20,
+    CHANGE_MODE = 0x21,
+    CLEAR = 0x23,
+    SELECT = 0x83,
+    UPLINK = 0xE7,
+    LONGEST_PACKET = 133,
+    STATUS_HEAD = 4,
+    STATUS_BLOCK = 100
+};
+
+/* Why a packet is refused. */
+enum {
+    OBEYED = 0,
+    BAD_LENGTH = 1,
+    BAD_CHANGE = 3,
+    NOT_ALLOWED = 4,
+    RESERVED = 5,
+    UNKNOWN = 6,
+    BAD_RANGE = 7,
+    TOO_LONG = 8,
+    BAD_MODE = 9,
+    NOT_NOW = 10,
+    BAD_SIZES = 16,
+    BAD_STATE = 17
+};
+
+/* Why a run stops. */
+enum {
+    STOPPED = 1,
+    BAD_SEQUENCE = 2,
+    BAD_COMMAND = 3,
+    BAD_CALL = 4,
+    BAD_EXPOSURES = 5,
+    BAD_LIST_NUMBER = 6,
+    BAD_LINE_LIST = 7,
+    NO_REPEATS = 10,
+    NO_LOOPS = 11,
+    PAST_END_STOP = 14
+};
+
+/* Sequence commands and their sizes. */
+enum {
+    RUN_RASTER = 0x90,
+    EXPOSE = 0x91,
+    LOOP_BACK = 0x92,
+    CALL = 0x93,
+    TERMINATE = 0x94,
+    DELAY = 0x95,
+    RUN_RASTER_SIZE = 23,
+    EXPOSE_SIZE = 3,
+    LOOP_BACK_SIZE = 2,
+    DELAY_SIZE = 3
+};
+
+enum {
+    SHORTEST_SEQUENCE = 6,
+    SEQUENCE_REPEATS = 3,
+    FIRST_COMMAND = 4,
+    MOST_EXPOSURES = 8,
+    END_STOP = 2400,
+    SCIENCE_FLAGS = 0x3C
+};
+
+static unsigned word(const uint8_t *p)
+{
+    return (unsigned)p[0] << 8 | p[1];
+}
+
+static void put_word(uint8_t *p, unsigned value)
+{
+    p[0] = (uint8_t)(value >> 8);
+    p[1] = (uint8_t)value;
+}
+
+static void put_long(uint8_t *p, uint32_t value)
+{
+    put_word(p, value >> 16);
+    put_word(p + 2, value & 0xFFFF);
+}
+
+static void add_one(uint8_t *p)
+{
+    put_word(p, word(p) + 1);
+}
+
+static uint8_t xor_of(const uint8_t *p, unsigned length)
+{
+    uint8_t sum = 0;
+    for (unsigned i = 0; i < length; i++)
+        sum ^= p[i];
+    return sum;
+}
+
+/* ---- The state ---- */
+
+static bool none_or_up_to(uint8_t value, uint8_t last)
+{
+    return value == NONE || value <= last;
+}
+
+static bool in_range(const uint8_t *s)
+{
+    if (s[MODE] < STANDBY || s[MODE] > AUTO)
+        return false;
+    if (s[CHANGES_ALLOWED] > 1 || s[RUNNING] > 1 || s[ENTERING] > 1)
+        return false;
+    if (s[FAILED_CODE] > 15 || s[ABORT_CODE] > 15)
+        return false;
+    if (!none_or_up_to(s[SELECTION], LAST_SEQUENCE) || !none_or_up_to(s[SEQUENCE], LAST_SEQUENCE))
+        return false;
+    if (s[PLACE] >= ENTRY || !none_or_up_to(s[RASTER], ENTRY - 1))
+        return false;
+    if (s[LINE_LIST] > LAST_LINE_LIST || word(s + MIRROR) > END_STOP || s[SET] > MOST_EXPOSURES)
+        return false;
+    if (s[RUNNING] && (s[MODE] != AUTO || s[SELECTION] == NONE || s[SEQUENCE] == NONE))
+        return false;
+    return true;
+}
+
+uint32_t plain_power_on(uint8_t *state, size_t state_len)
+{
+    if (state_len != PLAIN_STATE)
+        return BAD_SIZES;
+    memset(state, 0, PLAIN_STATE);
+    state[MODE] = STANDBY;
+    state[SELECTION] = NONE;
+    state[SEQUENCE] = NONE;
+    state[RASTER] = NONE;
+    return 0;
+}
+
+/* ---- Packets ---- */
+
+/* The table's own bytes of a range that lies wholly in one table, or NULL. */
+static uint8_t *range_of(uint8_t *seqs, uint8_t *lists, const uint8_t *address, unsigned count)
+{
+    unsigned at = (unsigned)address[0] << 16 | word(address + 1);
+    if (count == 0)
+        return NULL;
+    if (at >= SEQUENCES_AT && at < SEQUENCES_END && count <= SEQUENCES_END - at)
+        return seqs + (at - SEQUENCES_AT);
+    if (at >= LINE_LISTS_AT && at < LINE_LISTS_END && count <= LINE_LISTS_END - at)
+        return lists + (at - LINE_LISTS_AT);
+    return NULL;
+}
+
+static unsigned change_mode(uint8_t *s, uint8_t mode)
+{
+    if (!s[CHANGES_ALLOWED])
+        return NOT_ALLOWED;
+    if (mode < STANDBY || mode > LAST_MODE)
+        return BAD_MODE;
+    if (mode > AUTO)
+        return UNKNOWN;
+
+    if (s[MODE] != MANUAL) {
+        /* From STANDBY and from AUTO the one way leads to MANUAL. */
+        if (mode != MANUAL)
+            return BAD_CHANGE;
+        if (s[RUNNING]) {
+            s[RUNNING] = 0;
+            s[ABORT_CODE] = STOPPED;
+        }
+    } else if (mode == AUTO) {
+        if (s[SELECTION] == NONE)
+            return BAD_CHANGE;
+        s[SEQUENCE] = s[SELECTION];
+        s[PLACE] = 0;
+        put_word(s + EXPOSURES, 0);
+        s[ABORT_CODE] = 0;
+        s[RASTER] = NONE;
+        s[RUNNING] = 1;
+        s[ENTERING] = 1;
+    } else if (mode == MANUAL) {
+        return BAD_CHANGE;
+    }
+    s[MODE] = mode;
+    return OBEYED;
+}
+
+static unsigned select_sequence(uint8_t *s, uint8_t number)
+{
+    if (s[MODE] != MANUAL)
+        return NOT_NOW;
+    if (number > LAST_SEQUENCE)
+        return BAD_RANGE;
+    s[SELECTION] = number;
+    s[SEQUENCE] = number;
+    s[PLACE] = 0;
+    return OBEYED;
+}
+
+static bool reserved(uint8_t number)
+{
+    return number == 0x00 || (number >= 0x10 && number <= 0x1F) || (number >= 0xE0 && number <= 0xE4) ||
+           (number >= 0xF0 && number != 0xF5);
+}
+
+/* Obeys a packet other than a good status request; answers its code. A dump sets *answer. */
+static unsigned obey(uint8_t *s, uint8_t *seqs, uint8_t *lists, uint8_t *out, const uint8_t *p, size_t length,
+                     unsigned *answer)
+{
+    uint8_t *part;
+    unsigned count;
+
+    if (length == 0)
+        return BAD_LENGTH;
+    if (length > LONGEST_PACKET)
+        return TOO_LONG;
+
+    switch (p[0]) {
+    case GET_STATUS:
+        return BAD_LENGTH;
+    case DUMP:
+        if (length != 7)
+            return BAD_LENGTH;
+        count = (unsigned)p[4] << 16 | word(p + 5);
+        part = range_of(seqs, lists, p + 1, count);
+        if (part == NULL)
+            return BAD_RANGE;
+        memcpy(out, part, count);
+        *answer = count;
+        return OBEYED;
+    case ALLOW_CHANGES:
+        if (length > 2)
+            return BAD_LENGTH;
+        s[CHANGES_ALLOWED] = 1;
+        return OBEYED;
+    case CHANGE_MODE:
+        return length == 2 ? change_mode(s, p[1]) : BAD_LENGTH;
+    case CLEAR:
+        if (length != 1)
+            return BAD_LENGTH;
+        s[FAILED_CODE] = 0;
+        s[FAILED_NUMBER] = 0;
+        s[ABORT_CODE] = 0;
+        return OBEYED;
+    case SELECT:
+        return length == 2 ? select_sequence(s, p[1]) : BAD_LENGTH;
+    case UPLINK:
+        if (length < 5 || length != 5u + p[4])
+            return BAD_LENGTH;
+        if (s[RUNNING])
+            return NOT_NOW;
+        part = range_of(seqs, lists, p + 1, p[4]);
+        if (part == NULL)
+            return BAD_RANGE;
+        memcpy(part, p + 5, p[4]);
+        return OBEYED;
+    default:
+        return reserved(p[0]) ? RESERVED : UNKNOWN;
+    }
+}
+
+static unsigned answer_status(uint8_t *s, uint8_t *out, uint32_t time)
+{
+    uint8_t *block = out + STATUS_HEAD;
+
+    add_one(s + STATUS_PC);
+    memset(out, 0, STATUS_HEAD + STATUS_BLOCK);
+    out[0] = GET_STATUS;
+    out[3] = STATUS_BLOCK;
+
+    block[0] = 0x10;
+    block[1] = (uint8_t)(s[MODE] << 4 | s[FAILED_CODE]);
+    memcpy(block + 2, s + STATUS_PC, 2);
+    put_long(block + 4, time);
+    memcpy(block + 8, s + RECEIVED, 2);
+    memcpy(block + 12, s + FAILED, 2);
+    block[14] = s[FAILED_NUMBER];
+    block[17] = s[RUNNING] ? 0x21 : 0x22;
+    block[20] = s[SEQUENCE] == NONE ? 0 : s[SEQUENCE];
+    block[21] = s[PLACE];
+    block[22] = s[LINE_LIST];
+    memcpy(block + 24, s + EXPOSURES, 2);
+    memcpy(block + 26, s + MIRROR, 2);
+    memcpy(block + 64, s + LOG, 4);
+    block[90] = (uint8_t)(s[ABORT_CODE] << 4);
+    return STATUS_HEAD + STATUS_BLOCK;
+}
+
+uint32_t plain_packet(uint8_t *state, size_t state_len, uint8_t *seqs, size_t seqs_len, uint8_t *lists,
+                      size_t lists_len, uint8_t *out, size_t out_len, uint32_t time, const uint8_t *packet,
+                      size_t packet_len)
+{
+    unsigned code, answer = 0;
+
+    if (state_len != PLAIN_STATE || seqs_len != PLAIN_SEQUENCES || lists_len != PLAIN_LINE_LISTS ||
+        out_len < PLAIN_OUTPUT)
+        return BAD_SIZES;
+    if (!in_range(state))
+        return BAD_STATE;
+    if (packet_len == 1 && packet[0] == GET_STATUS)
+        return answer_status(state, out, time) << 8;
+
+    code = obey(state, seqs, lists, out, packet, packet_len, &answer);
+    add_one(state + RECEIVED);
+    for (unsigned i = 0; i < 3; i++)
+        state[LOG + i] = i < packet_len ? packet[i] : 0;
+    state[LOG + 3] = packet_len > LONGEST_PACKET ? 255 : (uint8_t)packet_len;
+    if (code != OBEYED) {
+        add_one(state + FAILED);
+        state[FAILED_NUMBER] = packet_len > 0 ? packet[0] : 0;
+        state[FAILED_CODE] = (uint8_t)code;
+    }
+    return code | answer << 8;
+}
+
+/* ---- Sequences and line lists ---- */
+
+/* The size of the command that stands whole before the checksum at this place, or 0. */
+static unsigned size_at(const uint8_t *text, unsigned place)
+{
+    static const uint8_t sizes[] = {RUN_RASTER_SIZE, EXPOSE_SIZE, LOOP_BACK_SIZE, 2, 1, DELAY_SIZE};
+    unsigned length = text[0], size;
+
+    if (length < SHORTEST_SEQUENCE || length > ENTRY || place < FIRST_COMMAND || place + 1 >= length)
+        return 0;
+    if (text[place] < RUN_RASTER || text[place] > DELAY)
+        return 0;
+    size = sizes[text[place] - RUN_RASTER];
+    return place + size < length ? size : 0;
+}
+
+/* A run raster's words, from its first byte. */
+static unsigned raster_id(const uint8_t *r) { return word(r + 1); }
+static unsigned raster_initial(const uint8_t *r) { return word(r + 3); }
+static unsigned raster_loops(const uint8_t *r) { return word(r + 5); }
+static unsigned raster_exposures(const uint8_t *r) { return r[13] & 0x0F; }
+static unsigned raster_asrc(const uint8_t *r) { return r[14]; }
+static unsigned raster_repeats(const uint8_t *r) { return word(r + 15) & 0x0FFF; }
+static unsigned raster_step(const uint8_t *r) { return word(r + 19); }
+static unsigned raster_list(const uint8_t *r) { return r[21]; }
+static unsigned raster_flags(const uint8_t *r) { return r[22] & SCIENCE_FLAGS; }
+
+static bool list_good(const uint8_t *list)
+{
+    unsigned windows = list[2];
+    if (windows < 1 || windows > 25 || list[0] != 14 + 6 * windows)
+        return false;
+    /* Byte 3 is the XOR of the others, so that with it the whole comes to 0. */
+    return xor_of(list, list[0]) == 0;
+}
+
+/* The entering of a sequence: its code, or 0; a fault sets *place. */
+static unsigned entry_fault(const uint8_t *text, unsigned *place)
+{
+    unsigned length = text[0];
+    *place = 0;
+    if (length < SHORTEST_SEQUENCE || length > ENTRY || xor_of(text, length) != 0)
+        return BAD_SEQUENCE;
+    *place = SEQUENCE_REPEATS;
+    return text[SEQUENCE_REPEATS] == 0 ? NO_REPEATS : 0;
+}
+
+/* A run raster's own tests, in the paper's order, once no other raster is open. */
+static unsigned raster_fault(const uint8_t *r, const uint8_t *lists)
+{
+    unsigned flags = raster_flags(r);
+    if (raster_loops(r) == 0 || raster_repeats(r) == 0)
+        return NO_LOOPS;
+    if (raster_exposures(r) < 1 || raster_exposures(r) > MOST_EXPOSURES)
+        return BAD_EXPOSURES;
+    if (raster_list(r) > LAST_LINE_LIST)
+        return BAD_LIST_NUMBER;
+    if (!list_good(lists + LINE_LIST_ENTRY * raster_list(r)))
+        return BAD_LINE_LIST;
+    if (raster_initial(r) > END_STOP || raster_step(r) > END_STOP ||
+        raster_initial(r) + (raster_loops(r) - 1) * raster_step(r) > END_STOP)
+        return PAST_END_STOP;
+    if (raster_asrc(r) != 0 || (flags & (flags - 1)) != 0)
+        return BAD_COMMAND;
+    return 0;
+}
+
+/* A set is full at its exposures; a field above 8, which no obeyed raster has, counts as 8. */
+static bool set_full(const uint8_t *raster, unsigned made)
+{
+    unsigned exposures = raster_exposures(raster);
+    return made >= (exposures < MOST_EXPOSURES ? exposures : MOST_EXPOSURES);
+}
+
+/* Whether a loop back's target is a command's start after the run raster, and at or before the
+ * first exposure that follows it in the text ahead of the loop back. */
+static bool target_good(const uint8_t *text, unsigned raster, unsigned loop_back)
+{
+    unsigned target = text[loop_back + 1], size;
+    bool seen = false;
+    for (unsigned at = FIRST_COMMAND; at < loop_back; at += size) {
+        size = size_at(text, at);
+        if (size == 0)
+            return false;
+        if (at <= raster)
+            continue;
+        seen |= at == target;
+        if (text[at] == EXPOSE)
+            return seen;
+    }
+    return false;
+}
+
+/* ---- One interpreter step ---- */
+
+static uint64_t event(unsigned kind, unsigned a, unsigned b, unsigned c)
+{
+    return kind | (uint64_t)a << 16 | (uint64_t)b << 32 | (uint64_t)c << 48;
+}
+
+static uint64_t abort_run(uint8_t *s, unsigned code, unsigned place)
+{
+    s[PLACE] = (uint8_t)place;
+    s[ABORT_CODE] = (uint8_t)code;
+    s[RUNNING] = 0;
+    return event(PLAIN_ABORT, code, s[SEQUENCE], place);
+}
+
+/* The run raster of the open raster, or NULL where none is open or none stands at its place. */
+static const uint8_t *open_raster(const uint8_t *s, const uint8_t *text)
+{
+    unsigned place = s[RASTER];
+    if (place == NONE || size_at(text, place) == 0 || text[place] != RUN_RASTER)
+        return NULL;
+    return text + place;
+}
+
+static uint64_t enter(uint8_t *s, const uint8_t *text)
+{
+    unsigned place, code = entry_fault(text, &place);
+    if (code != 0)
+        return abort_run(s, code, place);
+    s[ENTERING] = 0;
+    s[PLACE] = FIRST_COMMAND;
+    s[ROUNDS] = text[SEQUENCE_REPEATS];
+    return event(PLAIN_ENTER, s[SEQUENCE], 0, 0);
+}
+
+static uint64_t run_raster(uint8_t *s, const uint8_t *text, const uint8_t *lists)
+{
+    unsigned place = s[PLACE], code;
+    const uint8_t *raster = text + place;
+
+    if (s[RASTER] != NONE && s[RASTER] != place)
+        return abort_run(s, BAD_COMMAND, place);
+    code = raster_fault(raster, lists);
+    if (code != 0)
+        return abort_run(s, code, place);
+
+    if (s[RASTER] == NONE)
+        put_word(s + REPEATS, raster_repeats(raster));
+    s[RASTER] = (uint8_t)place;
+    s[SET] = 0;
+    put_word(s + PASSES, raster_loops(raster));
+    put_word(s + MIRROR, raster_initial(raster));
+    s[LINE_LIST] = (uint8_t)raster_list(raster);
+    s[PLACE] = (uint8_t)(place + RUN_RASTER_SIZE);
+    return event(PLAIN_RASTER, raster_id(raster), raster_initial(raster), 0);
+}
+
+static uint64_t expose(uint8_t *s, const uint8_t *text)
+{
+    unsigned place = s[PLACE], mirror = word(s + MIRROR);
+    const uint8_t *raster = open_raster(s, text);
+
+    if (raster == NULL || word(text + place + 1) == 0 || set_full(raster, s[SET]))
+        return abort_run(s, BAD_COMMAND, place);
+    if (set_full(raster, s[SET] + 1u) && word(s + PASSES) > 1) {
+        unsigned next = mirror + raster_step(raster);
+        if (next > END_STOP)
+            return abort_run(s, PAST_END_STOP, place);
+        put_word(s + MIRROR, next);
+    }
+    s[SET]++;
+    add_one(s + EXPOSURES);
+    s[PLACE] = (uint8_t)(place + EXPOSE_SIZE);
+    return event(PLAIN_EXP, word(s + EXPOSURES), mirror, 0);
+}
+
+static uint64_t loop_back(uint8_t *s, const uint8_t *text)
+{
+    unsigned place = s[PLACE], passes = word(s + PASSES), repeats = word(s + REPEATS);
+    const uint8_t *raster = open_raster(s, text);
+
+    if (raster == NULL || !set_full(raster, s[SET]) || !target_good(text, s[RASTER], place))
+        return abort_run(s, BAD_COMMAND, place);
+    if (passes > 1) {
+        s[PLACE] = text[place + 1];
+        s[SET] = 0;
+        put_word(s + PASSES, passes - 1);
+        return event(PLAIN_LOOP, s[PLACE], 0, 0);
+    }
+    if (repeats > 1) {
+        s[PLACE] = s[RASTER];
+        put_word(s + REPEATS, repeats - 1);
+        return event(PLAIN_NEXT, 0, 0, 0);
+    }
+    s[RASTER] = NONE;
+    s[PLACE] = (uint8_t)(place + LOOP_BACK_SIZE);
+    return event(PLAIN_DONE, 0, 0, 0);
+}
+
+/* Call and terminate. */
+static uint64_t close_sequence(uint8_t *s, const uint8_t *text, unsigned size)
+{
+    unsigned place = s[PLACE];
+
+    if (s[RASTER] != NONE || place + size + 1 != text[0])
+        return abort_run(s, BAD_COMMAND, place);
+    if (s[ROUNDS] > 1) {
+        s[ROUNDS]--;
+        s[PLACE] = FIRST_COMMAND;
+        return event(PLAIN_NEXT, 0, 0, 0);
+    }
+    if (text[place] == TERMINATE) {
+        s[RUNNING] = 0;
+        return event(PLAIN_END, 0, 0, 0);
+    }
+    if (text[place + 1] > LAST_SEQUENCE)
+        return abort_run(s, BAD_CALL, place);
+    s[SEQUENCE] = text[place + 1];
+    s[PLACE] = 0;
+    s[ENTERING] = 1;
+    return event(PLAIN_CALL, s[SEQUENCE], 0, 0);
+}
+
+uint64_t plain_step(uint8_t *state, size_t state_len, const uint8_t *seqs, size_t seqs_len, const uint8_t *lists,
+                    size_t lists_len)
+{
+    const uint8_t *text;
+    unsigned place, size;
+
+    if (state_len != PLAIN_STATE || seqs_len != PLAIN_SEQUENCES || lists_len != PLAIN_LINE_LISTS)
+        return event(PLAIN_REFUSED, BAD_SIZES, 0, 0);
+    if (!in_range(state))
+        return event(PLAIN_REFUSED, BAD_STATE, 0, 0);
+    if (!state[RUNNING])
+        return event(PLAIN_IDLE, 0, 0, 0);
+
+    text = seqs + ENTRY * state[SEQUENCE];
+    if (state[ENTERING])
+        return enter(state, text);
+
+    place = state[PLACE];
+    size = size_at(text, place);
+    if (size == 0)
+        return abort_run(state, BAD_COMMAND, place);
+    switch (text[place]) {
+    case RUN_RASTER:
+        return run_raster(state, text, lists);
+    case EXPOSE:
+        return expose(state, text);
+    case LOOP_BACK:
+        return loop_back(state, text);
+    case DELAY:
+        state[PLACE] = (uint8_t)(place + DELAY_SIZE);
+        return event(PLAIN_WAIT, word(text + place + 1), 0, 0);
+    default:
+        return close_sequence(state, text, size);
+    }
+}
+
+/* ---- The table check ---- */
+
+enum { CHAIN = 24 }; /* where a report's list of sequences begins */
+
+/* What the check of one sequence finds. */
+struct finding {
+    unsigned place;     /* of the command looked at last; a fault's place */
+    unsigned next;      /* the sequence called, or NONE */
+    uint64_t steps;
+    uint64_t exposures;
+};
+
+/* Steps of one raster with all its passes and repeats, from its run raster to its loop back. */
+static uint64_t raster_steps(const uint8_t *text, unsigned raster, unsigned loop_back)
+{
+    const uint8_t *r = text + raster;
+    unsigned target = text[loop_back + 1], before = 0, looped = 0;
+    for (unsigned at = raster + RUN_RASTER_SIZE; at <= loop_back; at += size_at(text, at)) {
+        if (at < target)
+            before++;
+        else
+            looped++;
+    }
+    return (uint64_t)raster_repeats(r) * (1 + before + (uint64_t)raster_loops(r) * looped);
+}
+
+static uint64_t raster_total(const uint8_t *r)
+{
+    return (uint64_t)raster_loops(r) * raster_exposures(r) * raster_repeats(r);
+}
+
+/* Applies the rules to one sequence in text order: its first fault's code, or 0. */
+static unsigned check_sequence(const uint8_t *text, const uint8_t *lists, struct finding *f)
+{
+    const uint8_t *raster = NULL;
+    unsigned place, size, set = 0;
+    uint64_t steps = 0, exposures = 0;
+    unsigned code = entry_fault(text, &f->place);
+
+    if (code != 0)
+        return code;
+    for (place = FIRST_COMMAND;; place += size) {
+        f->place = place;
+        size = size_at(text, place);
+        if (size == 0)
+            return BAD_COMMAND;
+        switch (text[place]) {
+        case RUN_RASTER:
+            if (raster != NULL)
+                return BAD_COMMAND;
+            raster = text + place;
+            set = 0;
+            code = raster_fault(raster, lists);
+            if (code != 0)
+                return code;
+            break;
+        case EXPOSE:
+            if (raster == NULL || word(text + place + 1) == 0 || set_full(raster, set))
+                return BAD_COMMAND;
+            set++;
+            break;
+        case LOOP_BACK:
+            if (raster == NULL || !set_full(raster, set) || !target_good(text, (unsigned)(raster - text), place))
+                return BAD_COMMAND;
+            steps += raster_steps(text, (unsigned)(raster - text), place);
+            exposures += raster_total(raster);
+            raster = NULL;
+            break;
+        case DELAY:
+            if (raster == NULL)
+                steps++;
+            break;
+        default:
+            if (raster != NULL || place + size + 1 != text[0])
+                return BAD_COMMAND;
+            f->next = text[place] == CALL ? text[place + 1] : NONE;
+            if (text[place] == CALL && f->next > LAST_SEQUENCE)
+                return BAD_CALL;
+            f->steps = 1 + text[SEQUENCE_REPEATS] * (steps + 1);
+            f->exposures = text[SEQUENCE_REPEATS] * exposures;
+            return 0;
+        }
+    }
+}
+
+static uint32_t report_fault(uint8_t *report, unsigned code, unsigned sequence, unsigned place)
+{
+    report[0] = (uint8_t)code;
+    report[1] = PLAIN_FAULT;
+    report[2] = (uint8_t)sequence;
+    report[3] = (uint8_t)place;
+    return code;
+}
+
+static uint32_t report_pass(uint8_t *report, unsigned how, uint64_t steps, uint64_t exposures)
+{
+    report[1] = (uint8_t)how;
+    put_long(report + 8, (uint32_t)(steps >> 32));
+    put_long(report + 12, (uint32_t)steps);
+    put_long(report + 16, (uint32_t)(exposures >> 32));
+    put_long(report + 20, (uint32_t)exposures);
+    return 0;
+}
+
+uint32_t plain_check(const uint8_t *seqs, size_t seqs_len, const uint8_t *lists, size_t lists_len, uint32_t number,
+                     uint8_t *report, size_t report_len)
+{
+    bool listed[LAST_SEQUENCE + 1] = {false};
+    uint64_t steps = 0, exposures = 0;
+    unsigned count = 0, sequence = number;
+
+    if (report_len != PLAIN_REPORT)
+        return BAD_SIZES;
+    memset(report, 0, PLAIN_REPORT);
+    if (seqs_len != PLAIN_SEQUENCES || lists_len != PLAIN_LINE_LISTS)
+        return report[0] = BAD_SIZES;
+    if (number > LAST_SEQUENCE)
+        return report[0] = BAD_RANGE;
+
+    for (;;) {
+        struct finding found;
+        unsigned code;
+
+        listed[sequence] = true;
+        report[CHAIN + count++] = (uint8_t)sequence;
+        put_word(report + 6, count);
+        code = check_sequence(seqs + ENTRY * sequence, lists, &found);
+        if (code != 0)
+            return report_fault(report, code, sequence, found.place);
+        steps += found.steps;
+        exposures += found.exposures;
+        if (found.next == NONE)
+            return report_pass(report, PLAIN_ENDS, steps, exposures);
+        if (listed[found.next])
+            return report_pass(report, PLAIN_RETURNS, steps, exposures);
+        sequence = found.next;
+    }
+}

@@ -1,0 +1,62 @@
+/*
+ * The control unit in plain C, written from document 01 alone: it shares no text with the proved
+ * library, and stands beside it to be compared. The four calls, the lent bytes and the answers are
+ * those of keel.h, under other names.
+ */
+#ifndef PLAIN_H
+#define PLAIN_H
+
+#include <stddef.h>
+#include <stdint.h>
+
+/* Sizes of what the caller lends. The output may be longer. */
+enum {
+    PLAIN_STATE = 32,
+    PLAIN_SEQUENCES = 16384,
+    PLAIN_LINE_LISTS = 7872,
+    PLAIN_OUTPUT = 16384,
+    PLAIN_REPORT = 152
+};
+
+/* What a step did: the low 8 bits of its answer. Its values stand at bits 16, 32 and 48. */
+enum {
+    PLAIN_IDLE,
+    PLAIN_ENTER,   /* sequence */
+    PLAIN_RASTER,  /* id, position */
+    PLAIN_EXP,     /* number, position */
+    PLAIN_LOOP,    /* place */
+    PLAIN_NEXT,
+    PLAIN_DONE,
+    PLAIN_WAIT,    /* time */
+    PLAIN_CALL,    /* sequence */
+    PLAIN_END,
+    PLAIN_ABORT,   /* code, sequence, place */
+    PLAIN_REFUSED  /* code: 16 or 17 */
+};
+
+/* How a check ended: byte 1 of its report. */
+enum { PLAIN_NOTHING, PLAIN_ENDS, PLAIN_RETURNS, PLAIN_FAULT };
+
+/* Sets the state at power-on. Answers 0, or 16. */
+uint32_t plain_power_on(uint8_t *state, size_t state_len);
+
+/* Obeys or refuses one packet. Answers the code + 256 x the length of the answer in out. */
+uint32_t plain_packet(uint8_t *state, size_t state_len,
+                      uint8_t *seqs, size_t seqs_len,
+                      uint8_t *lists, size_t lists_len,
+                      uint8_t *out, size_t out_len,
+                      uint32_t time,
+                      const uint8_t *packet, size_t packet_len);
+
+/* Takes one interpreter step. */
+uint64_t plain_step(uint8_t *state, size_t state_len,
+                    const uint8_t *seqs, size_t seqs_len,
+                    const uint8_t *lists, size_t lists_len);
+
+/* Checks a sequence and the chain that it calls. Answers the code and fills the report. */
+uint32_t plain_check(const uint8_t *seqs, size_t seqs_len,
+                     const uint8_t *lists, size_t lists_len,
+                     uint32_t number,
+                     uint8_t *report, size_t report_len);
+
+#endif

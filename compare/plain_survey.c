@@ -1,0 +1,74 @@
+/*
+ * The table check at the desk, over plain.h. Standard input is the two dumps put together: the
+ * sequence table, then the line lists. Arguments are sequence numbers; none means all of them.
+ */
+#include "plain.h"
+
+#include <stdio.h>
+#include <stdlib.h>
+#include <string.h>
+
+enum { TABLES = PLAIN_SEQUENCES + PLAIN_LINE_LISTS, SEQUENCES = 128, NO_NUMBER = 65535 };
+
+/* A number in decimal with no sign and no leading zero, at most 65535; NO_NUMBER, which the check
+ * refuses like any number above 127, for other words. */
+static uint32_t number_of(const char *word)
+{
+    size_t n = strlen(word);
+    if (n < 1 || n > 5 || strspn(word, "0123456789") != n || (word[0] == '0' && n > 1))
+        return NO_NUMBER;
+    return (uint32_t)strtoul(word, NULL, 10);
+}
+
+static unsigned long long total(const uint8_t *at)
+{
+    unsigned long long value = 0;
+    for (int i = 0; i < 8; i++)
+        value = value << 8 | at[i];
+    return value;
+}
+
+static void survey(const uint8_t *tables, const char *word)
+{
+    uint8_t report[PLAIN_REPORT];
+    unsigned count;
+
+    plain_check(tables, PLAIN_SEQUENCES, tables + PLAIN_SEQUENCES, PLAIN_LINE_LISTS, number_of(word), report,
+                sizeof report);
+    switch (report[1]) {
+    case PLAIN_ENDS:
+        printf("PASS %s ENDS %llu %llu", word, total(report + 8), total(report + 16));
+        break;
+    case PLAIN_RETURNS:
+        printf("PASS %s RETURNS %llu %llu", word, total(report + 8), total(report + 16));
+        break;
+    case PLAIN_FAULT:
+        printf("FAULT %s %d %d %d", word, report[0], report[2], report[3]);
+        break;
+    default:
+        printf("REFUSED %s %d", word, report[0]);
+    }
+    count = (unsigned)report[6] << 8 | report[7];
+    for (unsigned i = 0; i < count; i++)
+        printf(" %d", report[24 + i]);
+    putchar('\n');
+}
+
+int main(int argc, char **argv)
+{
+    static uint8_t tables[TABLES + 1]; /* one more, to see an input that is too long */
+
+    if (fread(tables, 1, sizeof tables, stdin) != TABLES) {
+        puts("REFUSED TABLES 16");
+    } else if (argc > 1) {
+        for (int i = 1; i < argc; i++)
+            survey(tables, argv[i]);
+    } else {
+        for (int i = 0; i < SEQUENCES; i++) {
+            char word[12];
+            snprintf(word, sizeof word, "%d", i);
+            survey(tables, word);
+        }
+    }
+    return 0;
+}

@@ -1,0 +1,263 @@
+-- Laws of the chain: what it keeps as it grows, and one law for each way out of the cycle of the two checks. Assumes nothing.
+use Prim.Native.Nat.{ℕ, zero, suc, _+_, _*_, _-_, _≤_, _<_, _^_, zero-le}
+use native.Mathlib.Nat.{le-of-suc-le-suc, not-suc-le-zero, add-zero, zero-add, add-assoc}
+use native.Mathlib.Decide.{ℕ-discrete}
+use native.Mathlib.Omega.{arith}
+use mathlib.Core.Path.{_≡_, refl, sym, ap, ap₂, _∙_, subst}
+use mathlib.Core.Bool.{Bool, true, false, cond, _||_, true≢false}
+use mathlib.Core.List.{List, [], _∷_, _++_, reverse, reverse-cons, append-nil}
+use lib.Dec.{eqb}
+use lib.ListN.{length, getD, set, replicate, length-set, length-append, length-reverse, getD-replicate}
+use lib.Seq.{getD-set-same, getD-set-other, set-at, append-snoc}
+use borrow.Author.Tests.{eq-eqb, ne-eqb, lt-ltb, le-ltb}
+use Rattle.memory.specs.Memory.{tablesWrong, entryOf}
+use Rattle.memory.proofs.Laws.{entry-short}
+use Rattle.sequence.specs.Starts.{among}
+use Rattle.sequence.specs.Env.{Env, envOf, textOf}
+use Rattle.survey.specs.declared.Closing.{Closing}
+use Rattle.survey.specs.declared.Closing.the-variants.{Terminates, CallsOn}
+use Rattle.survey.specs.declared.Walked.{Walked}
+use Rattle.survey.specs.declared.Walked.the-variants.{Fault, Closed}
+use Rattle.survey.specs.declared.Ending.{Ending}
+use Rattle.survey.specs.declared.Ending.the-variants.{Unlisted, Finishes, Returns, Faulty}
+use Rattle.survey.specs.declared.Chain.{Chain}
+use Rattle.survey.specs.declared.Report.{Report}
+use Rattle.survey.specs.Walk.{Finding, passes, faults, checkOne}
+use Rattle.survey.specs.Chain.{Told, told, total, front, onward, follow, chainOf, checkRows, checkOf}
+use Rattle.survey.specs.Report.{padded, reportOf, walkedOf}
+use Rattle.survey.specs.Held.{AtMost, unmarked, Kept, Free, Is, LowCall, joined, ahead, emptyChain, entered, added, ended, faulted}
+use Rattle.survey.proofs.Totals.{Octets, part-octets}
+use Rattle.survey.proofs.Laws.{one-most, one-low}
+
+-- ── marks
+-- one mark more is one unmarked fewer
+pub unmarked-set : (ms : List Bool) (n : ℕ) → n < length ms → getD ms n false ≡ false → unmarked ms ≡ suc (unmarked (set ms n true))
+unfolding unmarked
+unmarked-set [] n h e = absurd (not-suc-le-zero h)
+unmarked-set (false ∷ ms) zero h e = refl
+unmarked-set (true ∷ ms) zero h e = absurd (true≢false e)
+unmarked-set (true ∷ ms) (suc n) h e = unmarked-set ms n (le-of-suc-le-suc h) e
+unmarked-set (false ∷ ms) (suc n) h e = ap suc (unmarked-set ms n (le-of-suc-le-suc h) e)
+
+-- ── a sequence more
+module _ (chain : Chain) (n : ℕ) (free : Free chain n) where
+  pub one-fewer : unmarked (chain .marks) ≡ suc (unmarked (set (chain .marks) n true))
+  one-fewer = unmarked-set (chain .marks) n (omega (arith, free .kept .marks-long)) (free .new)
+
+  -- there is a place for one more
+  pub room : chain .count < 128
+  room = omega (arith, one-fewer, free .kept .all)
+
+  -- one more name, in the padded list
+  padded-more : (names : List ℕ) → length names < 128 → set (padded names) (length names) n ≡ padded (names ++ n ∷ [])
+  unfolding padded
+  padded-more names h =
+      let e : 128 - length names ≡ suc (127 - length names) = omega arith in
+      let d : 128 - length (names ++ n ∷ []) ≡ 127 - length names = simp length-append (omega arith) in
+      rw (e, d) (set-at names 0 (replicate (127 - length names) 0) n (length names) refl ∙ sym (append-snoc names n (replicate (127 - length names) 0)))
+
+  pub is-entered : (names : List ℕ) → Is chain names → Is (entered chain n) (n ∷ names)
+  unfolding entered among
+  is-entered names is =
+      let l : length (reverse names) ≡ length names = length-reverse names in
+      let c : chain .count ≡ length (reverse names) = is .count ∙ sym l in
+      record {
+        list = ap₂ (λ (xs : List ℕ) (k : ℕ). set xs k n) (is .list) c ∙ padded-more (reverse names) (omega (arith, room)) ∙ ap padded (sym (reverse-cons n names));
+        count = omega arith;
+        marks = λ k h. mark k h (ℕ-discrete k n);
+      }
+    where
+      mark : (k : ℕ) → k < 128 → Dec (k ≡ n) → getD (set (chain .marks) n true) k false ≡ (eqb n k || among k names)
+      mark k h (yes e) = rw (e, eq-eqb n n refl) (getD-set-same (chain .marks) n true false (omega (arith, free .kept .marks-long, free .low)))
+      mark k h (no d) = rw (ne-eqb n k (λ e. d (sym e))) (getD-set-other (chain .marks) n k true false d ∙ is .marks k h)
+
+-- ── what the rest of a chain is told to be
+total-join : (e : Ending) (a k s : ℕ) → total e a (total e k s) ≡ total e (a + k) s
+total-join (Unlisted code) a k s = refl
+total-join Finishes a k s = sym (add-assoc a k s)
+total-join Returns a k s = sym (add-assoc a k s)
+total-join (Faulty code n p) a k s = refl
+
+-- the names so far and one sequence in front of the rest are the names with that sequence, and the rest
+joined-front : (names : List ℕ) (a b n k x : ℕ) (t : Told) → joined names a b (front n k x t) ≡ joined (n ∷ names) (a + k) (b + x) t
+joined-front names a b n k x t =
+    rw (total-join (t .ending) a k, total-join (t .ending) b x, reverse-cons n names, append-snoc (reverse names) n (t .names))
+
+-- what was found of sequence n, and where its closing command leads
+abbrev stepsIn : Walked → ℕ
+stepsIn (Fault p code) = 0
+stepsIn (Closed p c k x) = k
+
+abbrev exposuresOf : Walked → ℕ
+exposuresOf (Fault p code) = 0
+exposuresOf (Closed p c k x) = x
+
+abbrev leads : (ℕ → Told) → ℕ → Walked → Told
+leads go n (Fault p code) = told [] (Faulty code n p) 0 0
+leads go n (Closed p c k x) = ahead go c
+
+onward-leads : (go : ℕ → Told) (n : ℕ) (found : Finding)
+    → onward go n found ≡ front n (stepsIn (walkedOf found)) (exposuresOf (walkedOf found)) (leads go n (walkedOf found))
+unfolding onward
+onward-leads go n (passes k x is p Terminates) = rw (add-zero k, add-zero x)
+onward-leads go n (passes k x is p (CallsOn m)) = refl
+onward-leads go n (faults p code) = refl
+
+-- ── reports of a chain that ends here
+module _ (chain : Chain) (names : List ℕ) (is : Is chain names) where
+  pub fault-said : (k x code n p : ℕ) → faulted chain (Faulty code n p) ≡ reportOf (joined names k x (told [] (Faulty code n p) 0 0))
+  unfolding faulted reportOf
+  fault-said k x code n p = rw (append-nil (reverse names), length-reverse names, is .list, is .count)
+
+  pub finish-said : ended chain Finishes ≡ reportOf (joined names (chain .steps) (chain .exposures) (told [] Finishes 0 0))
+  unfolding ended reportOf
+  finish-said = rw (add-zero (chain .steps), add-zero (chain .exposures), append-nil (reverse names), length-reverse names, is .list, is .count)
+
+  pub return-said : ended chain Returns ≡ reportOf (joined names (chain .steps) (chain .exposures) (told [] Returns 0 0))
+  unfolding ended reportOf
+  return-said = rw (add-zero (chain .steps), add-zero (chain .exposures), append-nil (reverse names), length-reverse names, is .list, is .count)
+
+-- ── each way out of a closing command
+follow-back : (E : Env) (seqs : List ℕ) (f : ℕ) (names : List ℕ) (m : ℕ) → among m names ≡ true → follow E seqs f names m ≡ told [] Returns 0 0
+unfolding follow
+follow-back E seqs zero names m e = refl
+follow-back E seqs (suc f) names m e = rw e
+
+-- what is reported, given what stands ahead of the names so far
+abbrev Reports : Chain → (List ℕ → Told) → Report → Type 0
+Reports chain rest r = (names : List ℕ) → Is chain names → r ≡ reportOf (joined names (chain .steps) (chain .exposures) (rest names))
+
+module _ (E : Env) (seqs : List ℕ) (chain : Chain) (c : Closing) (r : Report) where
+  pub close-stop : c ≡ Terminates → r ≡ ended chain Finishes → Reports chain (λ names. ahead (follow E seqs (unmarked (chain .marks)) names) c) r
+  close-stop e h names is = rw e (h ∙ finish-said chain names is)
+
+  module _ (m : ℕ) (e : c ≡ CallsOn m) where
+    pub close-back : m < 128 → getD (chain .marks) m false ≡ true → r ≡ ended chain Returns
+        → Reports chain (λ names. ahead (follow E seqs (unmarked (chain .marks)) names) c) r
+    close-back l q h names is =
+        rw (e, follow-back E seqs (unmarked (chain .marks)) names m (sym (is .marks m l) ∙ q)) (h ∙ return-said chain names is)
+
+    pub close-next : Reports chain (λ names. follow E seqs (unmarked (chain .marks)) names m) r
+        → Reports chain (λ names. ahead (follow E seqs (unmarked (chain .marks)) names) c) r
+    close-next h names is = rw e (h names is)
+
+-- ── each way out of a sequence
+-- the turns left once sequence n is listed
+abbrev left : Chain → ℕ → ℕ
+left chain n = unmarked (set (chain .marks) n true)
+
+pub text-short : (seqs : List ℕ) (n : ℕ) (text : List ℕ) → text ≡ entryOf seqs n → length text ≤ 128
+text-short seqs n text et = rw et (entry-short seqs n)
+
+-- sequence n is entered, and w was found of its text
+module _ (lists seqs : List ℕ) (oct : Octets seqs) (chain : Chain) (n : ℕ) (free : Free chain n) (here : Chain) (eh : here ≡ entered chain n)
+    (text : List ℕ) (et : text ≡ entryOf seqs n) (w : Walked) (ew : w ≡ walkedOf (checkOne (envOf lists) text)) where
+  turned : (names : List ℕ) → Is chain names → (a b : ℕ) → joined names a b (follow (envOf lists) seqs (unmarked (chain .marks)) names n)
+      ≡ joined (n ∷ names) (a + stepsIn w) (b + exposuresOf w) (leads (follow (envOf lists) seqs (left chain n) (n ∷ names)) n w)
+  unfolding follow
+  turned names is a b =
+      let go : ℕ → Told = follow (envOf lists) seqs (left chain n) (n ∷ names) in
+      let new : among n names ≡ false = sym (is .marks n (free .low)) ∙ free .new in
+      rw (one-fewer chain n free, new, onward-leads go n (checkOne (envOf lists) (entryOf seqs n)), ← et, ← ew)
+      (joined-front names a b n (stepsIn w) (exposuresOf w) (leads go n w))
+
+  pub seq-fault : (p code : ℕ) (r : Report) → w ≡ Fault p code → r ≡ faulted here (Faulty code n p)
+      → Reports chain (λ names. follow (envOf lists) seqs (unmarked (chain .marks)) names n) r
+  seq-fault p code r e h names is =
+      rw (turned names is (chain .steps) (chain .exposures), e, h, eh)
+      (fault-said (entered chain n) (n ∷ names) (is-entered chain n free names is) (chain .steps + 0) (chain .exposures + 0) code n p)
+
+  module _ (p k x : ℕ) (c : Closing) (e : w ≡ Closed p c k x) where
+    most : (k ≤ 2 ^ 54) × (x ≤ 2 ^ 54)
+    most =
+        subst (AtMost (2 ^ 54)) e
+        (one-most (envOf lists) text w ew (rw et (part-octets seqs (n * 128) 128 oct)) (text-short seqs n text et))
+
+    pub next-low : LowCall c
+    next-low = one-low (envOf lists) text w ew refl p k x c e
+
+    pub next-fits : (here .steps + k < 2 ^ 64) × (here .exposures + x < 2 ^ 64)
+    unfolding entered
+    next-fits = rw eh (omega (arith, most, room chain n free, free .kept .steps-fit, free .kept .exposures-fit))
+
+    module _ (next : Chain) (en : next ≡ added here k x) where
+      pub next-kept : Kept next
+      unfolding added entered
+      next-kept =
+          rw (en, eh)
+          record {
+            listed-long = length-set (chain .listed) (chain .count) n ∙ free .kept .listed-long;
+            marks-long = length-set (chain .marks) n true ∙ free .kept .marks-long;
+            all = omega (arith, one-fewer chain n free, free .kept .all);
+            steps-fit = omega (arith, most, free .kept .steps-fit);
+            exposures-fit = omega (arith, most, free .kept .exposures-fit);
+          }
+
+      pub next-fewer : unmarked (next .marks) + unmarked (next .marks) + 1 < unmarked (chain .marks) + unmarked (chain .marks)
+      unfolding added entered
+      next-fewer = rw (en, eh) (omega (arith, one-fewer chain n free))
+
+      pub seq-next : (r : Report) → Reports next (λ names. ahead (follow (envOf lists) seqs (unmarked (next .marks)) names) c) r
+          → Reports chain (λ names. follow (envOf lists) seqs (unmarked (chain .marks)) names n) r
+      unfolding added entered
+      seq-next r h names is =
+          let d : next ≡ added (entered chain n) k x = en ∙ ap (λ (y : Chain). added y k x) eh in
+          let i = is-entered chain n free names is in
+          let i′ : Is next (n ∷ names) = rw d record { list = i .list; count = i .count; marks = i .marks } in
+          rw (turned names is (chain .steps) (chain .exposures), e) (rw d at (h (n ∷ names) i′))
+
+-- ── the check
+marks-start : (n : ℕ) → n < 128 → getD (emptyChain .marks) n false ≡ false
+unfolding emptyChain
+marks-start n l = getD-replicate 128 n false false l
+
+kept-start : Kept emptyChain
+unfolding emptyChain unmarked
+kept-start = record { listed-long = refl; marks-long = refl; all = refl; steps-fit = zero-le; exposures-fit = zero-le }
+
+is-start : Is emptyChain []
+unfolding emptyChain padded among
+is-start = record { list = refl; count = refl; marks = λ k h. getD-replicate 128 k false false h }
+
+pub free-start : (start : Chain) (n : ℕ) → start ≡ emptyChain → n < 128 → Free start n
+free-start start n e l = rw e (record { kept = kept-start; low = l; new = marks-start n l })
+
+-- a chain's own totals, with nothing in front of them
+total-none : (e : Ending) (k s : ℕ) → total e 0 (total e k s) ≡ total e k s
+total-none e k s = total-join e 0 k s ∙ ap (λ (a : ℕ). total e a s) (zero-add k)
+
+joined-none : (n k x : ℕ) (t : Told) → joined [] 0 0 (front n k x t) ≡ front n k x t
+joined-none n k x t = rw (total-none (t .ending) k, total-none (t .ending) x)
+
+onward-whole : (go : ℕ → Told) (n : ℕ) (found : Finding) (t : Bool)
+    → joined [] 0 0 (cond t (told [] Returns 0 0) (onward go n found)) ≡ cond t (told [] Returns 0 0) (onward go n found)
+onward-whole go n found true = refl
+onward-whole go n found false =
+    let w = walkedOf found in
+    rw (onward-leads go n found) (joined-none n (stepsIn w) (exposuresOf w) (leads go n w))
+
+follow-whole : (E : Env) (seqs : List ℕ) (f : ℕ) (names : List ℕ) (n : ℕ) → joined [] 0 0 (follow E seqs f names n) ≡ follow E seqs f names n
+unfolding follow
+follow-whole E seqs zero names n = refl
+follow-whole E seqs (suc f) names n =
+    onward-whole (λ m. follow E seqs f (n ∷ names) m) n (checkOne E (textOf E seqs n)) (among n names)
+
+module _ (seqs lists : List ℕ) (n : ℕ) (start : Chain) (es : start ≡ emptyChain) (wrong : Bool) (ew : wrong ≡ tablesWrong seqs lists) (r : Report) where
+  nothing-said : (code : ℕ) → faulted start (Unlisted code) ≡ reportOf (told [] (Unlisted code) 0 0)
+  unfolding faulted reportOf emptyChain padded
+  nothing-said code = rw es
+
+  pub check-wrong : wrong ≡ true → r ≡ faulted start (Unlisted 16) → r ≡ reportOf (checkOf seqs lists n)
+  unfolding checkOf checkRows
+  check-wrong t h = rw (← ew, t) (h ∙ nothing-said 16)
+
+  pub check-high : wrong ≡ false → 127 < n → r ≡ faulted start (Unlisted 7) → r ≡ reportOf (checkOf seqs lists n)
+  unfolding checkOf checkRows
+  check-high t l h = rw (← ew, t, lt-ltb 127 n l) (h ∙ nothing-said 7)
+
+  pub check-runs : wrong ≡ false → n ≤ 127
+      → Reports start (λ names. follow (envOf lists) seqs (unmarked (start .marks)) names n) r → r ≡ reportOf (checkOf seqs lists n)
+  unfolding checkOf checkRows chainOf emptyChain unmarked
+  check-runs t l h =
+      let i : Is start [] = rw es is-start in
+      rw (← ew, t, le-ltb 127 n l) ((rw es at (h [] i)) ∙ ap reportOf (follow-whole (envOf lists) seqs 128 [] n))

@@ -1,0 +1,242 @@
+-- No total of a check is too large for 64 bits: what each command, round, sequence and chain adds is bounded by its bytes.
+-- Assumes nothing.
+use Prim.Native.Nat.{ℕ, zero, suc, _+_, _*_, _-_, _≤_, _<_, _^_, zero-le}
+use native.Mathlib.Nat.{mul-le-mul, le-refl}
+use native.Mathlib.Omega.{arith}
+use mathlib.Core.List.{List, [], _∷_}
+use lib.Dec.{ltb, eqb}
+use lib.ListN.{length, take, drop, length-take, List·getD-eq-default}
+use lib.Seq.{getD-take, getD-drop}
+use native.Mathlib.Decide.{decLt}
+use Rattle.octets.specs.Bytes.{byteAt}
+use Rattle.octets.specs.Rows.{firstCode}
+use Rattle.memory.specs.Memory.{placeAt}
+use Rattle.sequence.specs.declared.Command.{Command}
+use Rattle.sequence.specs.declared.Command.the-variants.{RunRaster, Expose, LoopBack, CallSequence, Terminate, Delay, Nothing, Unknown, Unfit}
+use Rattle.sequence.specs.declared.Header.{Header}
+use Rattle.sequence.specs.declared.Header.the-variants.{Repeats, Fault}
+use Rattle.sequence.specs.declared.RasterWords.{RasterWords}
+use Rattle.sequence.specs.Text.{commandAt, headerRows, headerOf, sizeAt}
+use Rattle.sequence.specs.Raster.{rasterAt}
+use Rattle.sequence.specs.Starts.{among}
+use Rattle.sequence.specs.Env.{Env, envOf, textOf}
+use Rattle.sequence.proofs.Laws.{Bytes, command-bytes}
+use Rattle.runner.specs.declared.Opened.{Opened}
+use Rattle.runner.specs.declared.Opened.the-variants.{Shut, Open}
+use Rattle.runner.specs.declared.Act.{Act}
+use Rattle.runner.specs.declared.Act.the-variants.{Refused, Opens, Exposes, Loops, Waits, Calls, Ends}
+use Rattle.runner.specs.Judge.{loopRows, runRows, exposeRows, exposesIn, closeRows, unless, judged, judge}
+use Rattle.survey.specs.declared.Item.{Item}
+use Rattle.survey.specs.declared.Item.the-variants.{Pause}
+use Rattle.survey.specs.declared.Closing.the-variants.{Terminates, CallsOn}
+use Rattle.survey.specs.declared.Ending.{Ending}
+use Rattle.survey.specs.declared.Ending.the-variants.{Unlisted, Finishes, Returns, Faulty}
+use Rattle.survey.specs.Items.{rasterSteps, rasterExposures, itemSteps, itemExposures}
+use Rattle.survey.specs.Walk.{Finding, passes, faults, inFront, between, scan, closed, paused, oneMore, since, walked, walk, rounds, checkedBy, checkOne}
+use Rattle.survey.specs.Chain.{Told, total, onward, follow, chainOf, checkOf}
+use Rattle.survey.specs.Held.{Narrow}
+use Rattle.survey.proofs.Names.{choice, of-check}
+
+-- ── bytes
+abbrev pub Octets : List ℕ → Type 0
+Octets s = (k : ℕ) → byteAt s k < 256
+
+pub part-octets : (s : List ℕ) (at size : ℕ) → Octets s → Octets (take size (drop at s))
+part-octets s at size o k = near (decLt k size)
+  where
+    near : Dec (k < size) → byteAt (take size (drop at s)) k < 256
+    near (yes l) = rw (getD-take size (drop at s) k 0 l, getD-drop at s k 0) (o (at + k))
+    near (no l) = rw (List·getD-eq-default (take size (drop at s)) 0 {n = k} (simp length-take (omega arith))) (omega arith)
+
+-- ── one raster
+pub narrow : (text : List ℕ) (p : ℕ) → Octets text → Narrow (rasterAt text p)
+unfolding rasterAt
+narrow text p o =
+    record {
+      loops = omega (arith, o (p + 5), o (p + 5 + 1));
+      exposures = omega arith;
+      repeats = omega arith;
+    }
+
+module _ (raster : RasterWords) (n : Narrow raster) where
+  pub pass-most : (from : ℕ) → from ≤ 511 → raster .loops * (from + 1) ≤ 65535 * 512
+  pass-most from h = let e : from + 1 ≤ 512 = omega arith in mul-le-mul (n .loops) e
+
+  pub steps-most : (before from : ℕ) → before ≤ 255 → from ≤ 511 → rasterSteps raster before from ≤ 2 ^ 37
+  steps-most before from b f =
+      let l = pass-most from f in
+      let s : 1 + before + raster .loops * (from + 1) ≤ 256 + 65535 * 512 = omega arith in
+      let m : raster .repeats * (1 + before + raster .loops * (from + 1)) ≤ 4095 * (256 + 65535 * 512) = mul-le-mul (n .repeats) s in
+      omega arith
+
+  pub sets-most : raster .loops * raster .exposures ≤ 65535 * 15
+  sets-most = mul-le-mul (n .loops) (n .exposures)
+
+  pub exposures-most : rasterExposures raster ≤ 2 ^ 37
+  exposures-most =
+      let m : raster .loops * raster .exposures * raster .repeats ≤ 65535 * 15 * 4095 = mul-le-mul sets-most (n .repeats) in
+      omega arith
+
+-- ── a round: f commands add at most f times what one raster adds
+abbrev pub Small : ℕ → Finding → Type 0
+Small most (passes k x is p c) = (k ≤ most) × (x ≤ most)
+Small most (faults p code) = Unit {0}
+
+pub small-more : {a b : ℕ} → a ≤ b → (found : Finding) → Small a found → Small b found
+small-more l (passes k x is p c) s = (omega arith, omega arith)
+small-more l (faults p code) s = tt
+
+small-front : (text : List ℕ) (i : Item) (a b : ℕ) → itemSteps text i + a ≤ b → itemExposures text i + a ≤ b → (found : Finding) → Small a found → Small b (inFront text i found)
+small-front text i a b h g (passes k x is p c) s = (omega arith, omega arith)
+small-front text i a b h g (faults p code) s = tt
+
+pub between-most : (text : List ℕ) (f p t : ℕ) → between text f p t ≤ f
+unfolding between
+between-most text zero p t = zero-le
+between-most text (suc f) p t = choice (λ (k : ℕ). k ≤ suc f) (eqb p t) _ _ (λ _. zero-le) (λ _. let h = between-most text f (p + sizeAt text p) t in omega arith)
+
+-- a loop back's target is a byte
+abbrev Near : Act → Type 0
+Near (Refused code) = Unit {0}
+Near Opens = Unit {0}
+Near (Exposes r) = Unit {0}
+Near (Loops t) = t ≤ 255
+Near Waits = Unit {0}
+Near (Calls n) = Unit {0}
+Near Ends = Unit {0}
+
+near-unless : (code : ℕ) (a : Act) → Near a → Near (unless code a)
+near-unless code a n = choice Near (eqb code 0) a (Refused code) (λ _. n) (λ _. tt)
+
+module _ (E : Env) (text : List ℕ) (oct : Octets text) where
+  near-judged : (p : ℕ) (o : Opened) (k : Command) → Bytes text p k → Near (judged E text p o k)
+  unfolding judged
+  near-judged p o RunRaster b = near-unless (firstCode (runRows E text p o)) Opens tt
+  near-judged p Shut (Expose time) b = near-unless (firstCode (exposeRows text time Shut)) (exposesIn Shut) tt
+  near-judged p (Open r c) (Expose time) b = near-unless (firstCode (exposeRows text time (Open r c))) (exposesIn (Open r c)) tt
+  near-judged p o (LoopBack t) b = near-unless (firstCode (loopRows text p t o)) (Loops t) (omega (arith, b .1, oct (p + 1)))
+  near-judged p o (CallSequence n) b = near-unless (firstCode (closeRows text p o)) (Calls n) tt
+  near-judged p o Terminate b = near-unless (firstCode (closeRows text p o)) Ends tt
+  near-judged p o (Delay time) b = tt
+  near-judged p o Nothing b = tt
+  near-judged p o Unknown b = tt
+  near-judged p o Unfit b = tt
+
+  near-judge : (p : ℕ) (o : Opened) → Near (judge E text p o)
+  unfolding judge
+  near-judge p o = near-judged p o (commandAt text p) (command-bytes text p)
+
+  since-most : (o : Opened) (n : ℕ) → since o n ≤ suc n
+  since-most Shut n = zero-le
+  since-most (Open r c) n = le-refl (suc n)
+
+  module _ (f n : ℕ) (room : n + suc f ≤ 511) (go : ℕ → Opened → ℕ → Finding)
+      (ih : (p : ℕ) (o : Opened) (m : ℕ) → m + f ≤ 511 → Small (f * 2 ^ 37) (go p o m)) where
+    more : (found : Finding) → Small (f * 2 ^ 37) found → Small (suc f * 2 ^ 37) found
+    more found s = let l : f * 2 ^ 37 ≤ suc f * 2 ^ 37 = omega arith in small-more l found s
+
+    small-closed : (p t : ℕ) (o : Opened) (found : Finding) → t ≤ 255 → Small (f * 2 ^ 37) found → Small (suc f * 2 ^ 37) (closed text p t o n found)
+    small-closed p t Shut found l s = more found s
+    small-closed p t (Open r c) found l s =
+        let before = between text t (r .0 + sizeAt text (r .0)) t in
+        let b : before ≤ t = between-most text t (r .0 + sizeAt text (r .0)) t in
+        let w = narrow text (r .0) oct in
+        let k = steps-most (rasterAt text (r .0)) w before (n - before) (omega arith) (omega arith) in
+        let x = exposures-most (rasterAt text (r .0)) w in
+        small-front text (scan text (r .0) t p n) (f * 2 ^ 37) (suc f * 2 ^ 37) (omega arith) (omega arith) found s
+
+    small-paused : (p : ℕ) (o : Opened) (found : Finding) → Small (f * 2 ^ 37) found → Small (suc f * 2 ^ 37) (paused text p o found)
+    small-paused p Shut found s = small-front text (Pause p) (f * 2 ^ 37) (suc f * 2 ^ 37) (omega arith) (omega arith) found s
+    small-paused p (Open r c) found s = more found s
+
+    on : (p : ℕ) (o : Opened) (m : ℕ) → m + f ≤ 511 → Small (suc f * 2 ^ 37) (go p o m)
+    on p o m l = more (go p o m) (ih p o m l)
+
+    small-walked : (p : ℕ) (o : Opened) (a : Act) → Near a → Small (suc f * 2 ^ 37) (walked text go p o n a)
+    unfolding walked
+    small-walked p o (Refused code) l = tt
+    small-walked p o Opens l = on (p + sizeAt text p) (Open (placeAt p) 0) 0 (omega arith)
+    small-walked p o (Exposes r) l = on (p + sizeAt text p) (oneMore o) (since o n) (let s = since-most o n in omega arith)
+    small-walked p o (Loops t) l = small-closed p t o (go (p + sizeAt text p) Shut 0) l (ih _ Shut 0 (omega arith))
+    small-walked p o Waits l =
+        small-paused p o (go (p + sizeAt text p) o (since o n)) (ih _ o (since o n) (let s = since-most o n in omega arith))
+    small-walked p o (Calls m) l = (omega arith, zero-le)
+    small-walked p o Ends l = (omega arith, zero-le)
+
+  pub walk-small : (f p : ℕ) (o : Opened) (n : ℕ) → n + f ≤ 511 → Small (f * 2 ^ 37) (walk E text f p o n)
+  unfolding walk
+  walk-small zero p o n room = tt
+  walk-small (suc f) p o n room = small-walked f n room (λ q u m. walk E text f q u m) (walk-small f) p o (judge E text p o) (near-judge p o)
+
+-- ── all rounds of a sequence
+pub rounds-most : (q : ℕ) → q ≤ 255 → (k : ℕ) → k ≤ 2 ^ 46 → 1 + q * k ≤ 2 ^ 54
+rounds-most q l k h = let m : q * k ≤ 255 * 2 ^ 46 = mul-le-mul l h in omega arith
+
+pub small-rounds : (E : Env) (q : ℕ) → q ≤ 255 → (found : Finding) → Small (2 ^ 46) found → Small (2 ^ 54) (rounds E q found)
+small-rounds E q l (passes k x is p Terminates) s = let m = rounds-most q l x (s .1) in (rounds-most q l k (s .0), omega arith)
+small-rounds E q l (passes k x is p (CallsOn m)) s =
+    let w = rounds-most q l x (s .1) in
+    choice (Small (2 ^ 54)) (ltb (E .last) m) _ _ (λ _. tt) (λ _. (rounds-most q l k (s .0), omega arith))
+small-rounds E q l (faults p code) s = tt
+
+-- a sequence's repeats are a byte
+abbrev FewRounds : Header → Type 0
+FewRounds (Repeats q) = q ≤ 255
+FewRounds (Fault code place) = Unit {0}
+
+few-rounds : (text : List ℕ) → Octets text → FewRounds (headerOf text)
+unfolding headerOf
+few-rounds text o =
+    choice FewRounds (eqb (firstCode (headerRows text)) 0) (Repeats (byteAt text 3)) _ (λ _. let h = o 3 in omega arith) (λ _. tt)
+
+module _ (E : Env) (text : List ℕ) (oct : Octets text) (short : length text ≤ 511) where
+  small-by : (h : Header) → FewRounds h → Small (2 ^ 54) (checkedBy E text h)
+  small-by (Repeats q) l =
+      small-rounds E q l (walk E text (length text) 4 Shut 0)
+      (small-more (let m : length text * 2 ^ 37 ≤ 2 ^ 46 = omega arith in m) (walk E text (length text) 4 Shut 0) (walk-small E text oct (length text) 4 Shut 0 (omega arith)))
+  small-by (Fault code place) l = tt
+
+  pub one-small : Small (2 ^ 54) (checkOne E text)
+  unfolding checkOne
+  one-small = small-by (headerOf text) (few-rounds text oct)
+
+-- ── a chain of f sequences
+abbrev Within : ℕ → Told → Type 0
+Within f t = (t .steps ≤ f * 2 ^ 54) × (t .exposures ≤ f * 2 ^ 54)
+
+total-most : (e : Ending) (a b : ℕ) → total e a b ≤ a + b
+total-most (Unlisted code) a b = zero-le
+total-most Finishes a b = le-refl (a + b)
+total-most Returns a b = le-refl (a + b)
+total-most (Faulty code n p) a b = zero-le
+
+within-onward : (f n : ℕ) (go : ℕ → Told) → ((m : ℕ) → Within f (go m)) → (found : Finding) → Small (2 ^ 54) found → Within (suc f) (onward go n found)
+unfolding onward
+within-onward f n go ih (passes k x is p Terminates) s = (omega arith, omega arith)
+within-onward f n go ih (passes k x is p (CallsOn m)) s =
+    let t = go m in
+    let w = ih m in
+    let a = total-most (t .ending) k (t .steps) in
+    let b = total-most (t .ending) x (t .exposures) in
+    (omega arith, omega arith)
+within-onward f n go ih (faults p code) s = (zero-le, zero-le)
+
+module _ (E : Env) (seqs : List ℕ) (oct : Octets seqs) (size : E .size ≤ 511) where
+  within-follow : (f : ℕ) (names : List ℕ) (n : ℕ) → Within f (follow E seqs f names n)
+  unfolding follow
+  within-follow zero names n = (zero-le, zero-le)
+  within-follow (suc f) names n =
+      choice (Within (suc f)) (among n names) _ _ (λ _. (zero-le, zero-le))
+      (λ _. within-onward f n (λ m. follow E seqs f (n ∷ names) m) (within-follow f (n ∷ names)) (checkOne E (textOf E seqs n))
+      (one-small E (textOf E seqs n) (part-octets seqs (n * E .size) (E .size) oct) (simp length-take (omega arith))))
+
+  pub chain-within : (n : ℕ) → Within (suc (E .last)) (chainOf E seqs n)
+  unfolding chainOf
+  chain-within n = within-follow (suc (E .last)) [] n
+
+-- no total of a check comes near 2^63
+pub totals-fit : (seqs lists : List ℕ) (n : ℕ) → Octets seqs
+    → (checkOf seqs lists n .steps < 2 ^ 63) × (checkOf seqs lists n .exposures < 2 ^ 63)
+totals-fit seqs lists n oct =
+    of-check (λ t. (t .steps < 2 ^ 63) × (t .exposures < 2 ^ 63)) seqs lists n (λ _. (omega arith, omega arith))
+    (λ _ _. let w = chain-within (envOf lists) seqs oct (omega arith) n in (omega arith, omega arith))

@@ -1,0 +1,13 @@
+-- `Unit::cleared` meets its contract: the record with what is cleared. Assumes nothing.
+use borrow.Author.Needs.{needs}
+use Rattle.unit.proofs.Unit.cleared.Statement.{statement}
+use Rattle.unit.proofs.Unit.cleared.Tie as tie
+
+cleared-requires : tie.Need-cleared-requires
+cleared-requires c κs = search needs
+
+returns : tie.Need-returns
+returns c = simp (c .before .cleared .ensures)
+
+pub cleared-spec : {M : Type 1} → statement M
+cleared-spec = tie.close (tie.spec cleared-requires returns)

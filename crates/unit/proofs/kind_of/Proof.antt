@@ -1,0 +1,58 @@
+-- `kind_of` meets its contract: an arm for each number of the table; the last two by `unnamed`. Assumes nothing.
+use Rattle.unit.specs.Packet.{kindOf}
+use Rattle.unit.proofs.Ways.{unnamed}
+use borrow.Author.Needs.{needs}
+use Rattle.unit.proofs.kind_of.Statement.{statement}
+use Rattle.unit.proofs.kind_of.Tie as tie
+
+foreign-requires : tie.Need-foreign-requires
+foreign-requires c κs = search needs
+
+returns : tie.Need-returns
+unfolding kindOf
+returns c = rw (c .match .keys1)
+
+returns-2 : tie.Need-returns-2
+unfolding kindOf
+returns-2 c = rw (c .match .keys2)
+
+returns-3 : tie.Need-returns-3
+unfolding kindOf
+returns-3 c = rw (c .match .keys3)
+
+returns-4 : tie.Need-returns-4
+unfolding kindOf
+returns-4 c = rw (c .match .keys4)
+
+returns-5 : tie.Need-returns-5
+unfolding kindOf
+returns-5 c = rw (c .match .keys5)
+
+returns-6 : tie.Need-returns-6
+unfolding kindOf
+returns-6 c = rw (c .match .keys6)
+
+returns-7 : tie.Need-returns-7
+unfolding kindOf
+returns-7 c = rw (c .match .keys7)
+
+returns-8 : tie.Need-returns-8
+returns-8 c = simp (unnamed _ (c .before .before .match .rest), ← c .before .foreign .ensures, c .if1 .taken)
+
+returns-9 : tie.Need-returns-9
+returns-9 c = simp (unnamed _ (c .before .before .match .rest), ← c .before .foreign .ensures, c .if1 .left)
+
+pub kind-of-spec : {M : Type 1} → statement M
+kind-of-spec =
+    tie.close
+    (tie.spec
+    foreign-requires
+    returns
+    returns-2
+    returns-3
+    returns-4
+    returns-5
+    returns-6
+    returns-7
+    returns-8
+    returns-9)
