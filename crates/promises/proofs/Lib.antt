@@ -8,6 +8,7 @@ pub mod Lines
 pub mod Rasters
 pub mod Rounds
 pub mod Counts
+pub mod Shown
 pub mod Seen
 pub mod Targets
 pub mod Walks
@@ -15,4 +16,18 @@ pub mod Sequences
 pub mod Listing
 pub mod Chains
 pub mod Never
+pub mod Laps
 pub mod Ranges
+pub mod ChainShown
+pub mod TextOrder
+pub mod Plans
+pub mod Units
+pub mod Obeyed
+pub mod Packets
+pub mod Auto
+pub mod Steady
+pub mod Starts
+pub mod Between
+pub mod Working
+pub mod AsTold
+pub mod Demand3

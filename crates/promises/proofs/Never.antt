@@ -128,8 +128,13 @@ module _ (E : Env) (fair : Fair E) (seqs : List ℕ) where
       go true e y ih = none-more before n e
       go false e y ih = fine-onward before n after (ih e) (checkOne E (textOf E seqs n)) refl y
 
-  pub never : (n m : ℕ) (s : Runner) → n ≤ E .last → AtDoor n m s → IsPassed (chainOf E seqs n .ending) → (k : ℕ) → Quiet E seqs k s
+  -- every sequence that a passed chain lists is fine, and calls only listed ones
+  pub listed-fine : (n : ℕ) → n ≤ E .last → IsPassed (chainOf E seqs n .ending)
+      → ((u : ℕ) → among u (chainOf E seqs n .names) ≡ true → Fine E seqs (λ v. among v (chainOf E seqs n .names) ≡ true) u) × (among n (chainOf E seqs n .names) ≡ true)
   unfolding chainOf among
+  listed-fine n h y = fine-follow (suc (E .last)) [] n (unlisted-most (suc (E .last)) []) h y
+
+  pub never : (n m : ℕ) (s : Runner) → n ≤ E .last → AtDoor n m s → IsPassed (chainOf E seqs n .ending) → (k : ℕ) → Quiet E seqs k s
   never n m s h d y k =
-      let (all, known) = fine-follow (suc (E .last)) [] n (unlisted-most (suc (E .last)) []) h y in
+      let (all, known) = listed-fine n h y in
       safe (λ u. among u (chainOf E seqs n .names) ≡ true) all k n known s m d

@@ -1,6 +1,6 @@
 -- A check depends on the bytes of the sequences that it lists and of the line lists that those use, and on nothing else of the tables.
 -- Assumes nothing.
-use Prim.Native.Nat.{ℕ, zero, suc, _+_, _≤_, _<_}
+use Prim.Native.Nat.{ℕ, zero, suc, _+_, _*_, _≤_, _<_}
 use native.Mathlib.Omega.{arith}
 use mathlib.Core.Path.{_≡_, refl, sym, ap, _∙_}
 use mathlib.Core.Bool.{Bool, true, false, cond}
@@ -10,7 +10,7 @@ use lib.ListN.{length, getD, take, drop, length-take, length-drop}
 use lib.Seq.{getD-take, getD-drop, ext-getD}
 use borrow.Author.Tests.{ltb-false, eqb-true, eq-eqb}
 use Rattle.octets.specs.Rows.{firstCode}
-use Rattle.memory.specs.Memory.{tablesWrong}
+use Rattle.memory.specs.Memory.{tablesWrong, entryOf}
 use Rattle.sequence.specs.declared.Command.{Command}
 use Rattle.sequence.specs.declared.Command.the-variants.{RunRaster, Expose, LoopBack, CallSequence, Terminate, Delay, Nothing, Unknown, Unfit}
 use Rattle.sequence.specs.declared.Header.{Header}
@@ -215,3 +215,14 @@ part-same s s′ at size e h = ext-getD 0 _ _ (simp (length-take, length-drop) (
   where
     byte : (i : ℕ) → i < size → getD (take size (drop at s′)) i 0 ≡ getD (take size (drop at s)) i 0
     byte i l = getD-take size (drop at s′) i 0 l ∙ getD-drop at s′ i 0 ∙ h i l ∙ sym (getD-take size (drop at s) i 0 l ∙ getD-drop at s i 0)
+
+-- tables that have the same bytes in each of these sequences, and in each line list that one of them uses, agree
+pub agree-bytes : (seqs lists seqs′ lists′ names : List ℕ) → length seqs′ ≡ length seqs → length lists′ ≡ length lists
+    → ((n i : ℕ) → among n names ≡ true → i < 128 → getD seqs′ (n * 128 + i) 0 ≡ getD seqs (n * 128 + i) 0)
+    → ((n k i : ℕ) → among n names ≡ true → k ≤ 47 → Uses (entryOf seqs n) k → i < 164 → getD lists′ (k * 164 + i) 0 ≡ getD lists (k * 164 + i) 0)
+    → Agree seqs lists seqs′ lists′ names
+agree-bytes seqs lists seqs′ lists′ names ls ll hs hl =
+    record {
+      entries = λ n a. part-same seqs seqs′ (n * 128) 128 ls (λ i b. hs n i a b);
+      used = λ n k a b u. part-same lists lists′ (k * 164) 164 ll (λ i c. hl n k i a b u c);
+    }

@@ -14,7 +14,7 @@ use Rattle.memory.specs.Memory.{placeAt, placeOf}
 use Rattle.sequence.specs.declared.Header.{Header}
 use Rattle.sequence.specs.declared.Header.the-variants.{Repeats, Fault as HeaderFault}
 use Rattle.sequence.specs.Text.{sizeOf, sizeAt, headerOf}
-use Rattle.sequence.proofs.Laws.{none-past, size-inside}
+use Rattle.sequence.proofs.Laws.{none-past}
 use Rattle.sequence.specs.declared.RasterWords.{RasterWords}
 use Rattle.sequence.specs.Raster.{rasterAt}
 use Rattle.sequence.specs.Env.{Env}
@@ -57,17 +57,10 @@ pub past-of : (text : List ℕ) (number : ℕ) (r : Placed) (at : Place) (q : �
     → q ≡ number + sizeAt text number
 past-of text number r at q e g h = h ∙ ap (λ (x : Place). x .0 + sizeAt text (x .0)) (placed-at number r at e g .1)
 
-module _ (text : List ℕ) (p : ℕ) (short : length text ≤ 128) where
-  pub none-outside : 128 ≤ p → sizeAt text p ≡ 0
-  unfolding sizeAt sizeOf
-  none-outside h = let l : length text ≤ p = omega arith in rw (none-past text p l)
-
-  pub next-low : p ≤ 255 → p + sizeAt text p ≤ 255
-  next-low l = go (sizeAt text p) refl
-    where
-      go : (k : ℕ) → sizeAt text p ≡ k → p + k ≤ 255
-      go zero e = omega arith
-      go (suc k) e = let h = size-inside text p (omega arith) in omega arith
+-- no command stands past an entry's end
+pub none-outside : (text : List ℕ) (p : ℕ) → length text ≤ 128 → 128 ≤ p → sizeAt text p ≡ 0
+unfolding sizeAt sizeOf
+none-outside text p short h = let l : length text ≤ p = omega arith in rw (none-past text p l)
 
 -- ── the commands up to a target
 module _ (text : List ℕ) (left p t : ℕ) where

@@ -4,3 +4,4 @@ pub mod Totals
 pub mod Samples
 pub mod Laws
 pub mod Chains
+pub mod Greatest

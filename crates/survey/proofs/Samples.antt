@@ -1,6 +1,6 @@
 -- The samples of document 01 for the table check: one list of rows, each the tables' first bytes with what is asked of them and the right
 -- answer in numbers, and one test of them all. Assumes nothing.
-use Prim.Native.Nat.{ℕ, _-_}
+use Prim.Native.Nat.{ℕ, zero, suc, _-_}
 use mathlib.Core.Path.{_≡_, refl}
 use mathlib.Core.Bool.{Bool, true, false, _&&_}
 use mathlib.Core.List.{List, [], _∷_, _++_}
@@ -67,6 +67,21 @@ raster high low sum =
     ∷ 0x94
     ∷ sum ∷ []
 
+-- as many steps as one sequence can have: every count at its greatest, and a command of three bytes wherever one has room
+abbrev delays : ℕ → List ℕ → List ℕ
+delays zero rest = rest
+delays (suc n) rest = 0x95 ∷ 0x00 ∷ 0x01 ∷ delays n rest
+
+abbrev longest : List ℕ
+longest =
+    0x80 ∷ 0x00 ∷ 0x01 ∷ 0xFF
+    ∷ 0x90 ∷ 0x00 ∷ 0x07 ∷ 0x00 ∷ 0x64 ∷ 0xFF ∷ 0xFF ∷ 0x00 ∷ 0x00 ∷ 0x00 ∷ 0x00 ∷ 0x00 ∷ 0x00 ∷ 0x01 ∷ 0x00 ∷ 0x0F ∷ 0xFF ∷ 0x00 ∷ 0x00 ∷ 0x00 ∷ 0x00 ∷ 0x00 ∷ 0x00
+    ∷ 0x91 ∷ 0x00 ∷ 0x64
+    ∷ delays 31
+    (0x92 ∷ 0x1B
+    ∷ 0x93 ∷ 0x00
+    ∷ 0x07 ∷ [])
+
 abbrev samples : List Sample
 samples =
     sample (0x06 ∷ 0x00 ∷ 0x01 ∷ 0x01 ∷ 0x94 ∷ 0x92 ∷ []) [] (checked 0) (1 ∷ 0 ∷ 0 ∷ 0 ∷ 2 ∷ 0 ∷ 0 ∷ [])
@@ -80,6 +95,7 @@ samples =
     -- a sequence that calls itself, and one whose call goes to a sequence of zeros
     ∷ sample (0x07 ∷ 0x00 ∷ 0x01 ∷ 0x02 ∷ 0x93 ∷ 0x00 ∷ 0x97 ∷ []) [] (checked 0) (2 ∷ 0 ∷ 0 ∷ 0 ∷ 3 ∷ 0 ∷ 0 ∷ [])
     ∷ sample (0x07 ∷ 0x00 ∷ 0x01 ∷ 0x02 ∷ 0x93 ∷ 0x05 ∷ 0x92 ∷ []) [] (checked 0) (3 ∷ 2 ∷ 5 ∷ 0 ∷ 0 ∷ 0 ∷ 0 ∷ 5 ∷ [])
+    ∷ sample longest lineList (checked 0) (2 ∷ 0 ∷ 0 ∷ 0 ∷ 2258299461856 ∷ 68433285375 ∷ 0 ∷ [])
     ∷ sample [] [] (checked 128) (0 ∷ 7 ∷ 0 ∷ 0 ∷ 0 ∷ 0 ∷ [])
     ∷ sample [] [] (λ seqs lists. checked 128 lists seqs) (0 ∷ 16 ∷ 0 ∷ 0 ∷ 0 ∷ 0 ∷ [])
     ∷ []

@@ -1,7 +1,7 @@
 -- No total of a check is too large for 64 bits: what each command, round, sequence and chain adds is bounded by its bytes.
 -- Assumes nothing.
 use Prim.Native.Nat.{ℕ, zero, suc, _+_, _*_, _-_, _≤_, _<_, _^_, zero-le}
-use native.Mathlib.Nat.{mul-le-mul, le-refl}
+use native.Mathlib.Nat.{mul-le-mul, le-refl, suc-mul}
 use native.Mathlib.Omega.{arith}
 use mathlib.Core.List.{List, [], _∷_}
 use lib.Dec.{ltb, eqb}
@@ -10,7 +10,8 @@ use lib.Seq.{getD-take, getD-drop}
 use native.Mathlib.Decide.{decLt}
 use Rattle.octets.specs.Bytes.{byteAt}
 use Rattle.octets.specs.Rows.{firstCode}
-use Rattle.memory.specs.Memory.{placeAt}
+use Rattle.memory.specs.Memory.{placeAt, entryOf}
+use Rattle.memory.proofs.Laws.{entry-short}
 use Rattle.sequence.specs.declared.Command.{Command}
 use Rattle.sequence.specs.declared.Command.the-variants.{RunRaster, Expose, LoopBack, CallSequence, Terminate, Delay, Nothing, Unknown, Unfit}
 use Rattle.sequence.specs.declared.Header.{Header}
@@ -78,9 +79,13 @@ module _ (raster : RasterWords) (n : Narrow raster) where
       omega arith
 
 -- ── a round: f commands add at most f times what one raster adds
+-- steps and exposures of at most these
+abbrev pub Brings : ℕ → ℕ → Finding → Type 0
+Brings a b (passes k x is p c) = (k ≤ a) × (x ≤ b)
+Brings a b (faults p code) = Unit {0}
+
 abbrev pub Small : ℕ → Finding → Type 0
-Small most (passes k x is p c) = (k ≤ most) × (x ≤ most)
-Small most (faults p code) = Unit {0}
+Small most found = Brings most most found
 
 pub small-more : {a b : ℕ} → a ≤ b → (found : Finding) → Small a found → Small b found
 small-more l (passes k x is p c) s = (omega arith, omega arith)
@@ -200,9 +205,9 @@ module _ (E : Env) (text : List ℕ) (oct : Octets text) (short : length text �
   unfolding checkOne
   one-small = small-by (headerOf text) (few-rounds text oct)
 
--- ── a chain of f sequences
-abbrev Within : ℕ → Told → Type 0
-Within f t = (t .steps ≤ f * 2 ^ 54) × (t .exposures ≤ f * 2 ^ 54)
+-- ── a chain of f sequences, each of which brings at most a steps and b exposures
+abbrev pub Within : ℕ → ℕ → ℕ → Told → Type 0
+Within a b f t = (t .steps ≤ f * a) × (t .exposures ≤ f * b)
 
 total-most : (e : Ending) (a b : ℕ) → total e a b ≤ a + b
 total-most (Unlisted code) a b = zero-le
@@ -210,33 +215,38 @@ total-most Finishes a b = le-refl (a + b)
 total-most Returns a b = le-refl (a + b)
 total-most (Faulty code n p) a b = zero-le
 
-within-onward : (f n : ℕ) (go : ℕ → Told) → ((m : ℕ) → Within f (go m)) → (found : Finding) → Small (2 ^ 54) found → Within (suc f) (onward go n found)
-unfolding onward
-within-onward f n go ih (passes k x is p Terminates) s = (omega arith, omega arith)
-within-onward f n go ih (passes k x is p (CallsOn m)) s =
-    let t = go m in
-    let w = ih m in
-    let a = total-most (t .ending) k (t .steps) in
-    let b = total-most (t .ending) x (t .exposures) in
-    (omega arith, omega arith)
-within-onward f n go ih (faults p code) s = (zero-le, zero-le)
+module _ (a b : ℕ) where
+  within-onward : (f n : ℕ) (go : ℕ → Told) → ((m : ℕ) → Within a b f (go m)) → (found : Finding) → Brings a b found
+      → Within a b (suc f) (onward go n found)
+  unfolding onward
+  within-onward f n go ih (passes k x is p Terminates) s = (omega (arith, suc-mul f a), omega (arith, suc-mul f b))
+  within-onward f n go ih (passes k x is p (CallsOn m)) s =
+      let t = go m in
+      let w = ih m in
+      (omega (arith, total-most (t .ending) k (t .steps), suc-mul f a), omega (arith, total-most (t .ending) x (t .exposures), suc-mul f b))
+  within-onward f n go ih (faults p code) s = (zero-le, zero-le)
 
-module _ (E : Env) (seqs : List ℕ) (oct : Octets seqs) (size : E .size ≤ 511) where
-  within-follow : (f : ℕ) (names : List ℕ) (n : ℕ) → Within f (follow E seqs f names n)
-  unfolding follow
-  within-follow zero names n = (zero-le, zero-le)
-  within-follow (suc f) names n =
-      choice (Within (suc f)) (among n names) _ _ (λ _. (zero-le, zero-le))
-      (λ _. within-onward f n (λ m. follow E seqs f (n ∷ names) m) (within-follow f (n ∷ names)) (checkOne E (textOf E seqs n))
-      (one-small E (textOf E seqs n) (part-octets seqs (n * E .size) (E .size) oct) (simp length-take (omega arith))))
+  module _ (E : Env) (seqs : List ℕ) (one : (n : ℕ) → Brings a b (checkOne E (textOf E seqs n))) where
+    within-follow : (f : ℕ) (names : List ℕ) (n : ℕ) → Within a b f (follow E seqs f names n)
+    unfolding follow
+    within-follow zero names n = (zero-le, zero-le)
+    within-follow (suc f) names n =
+        choice (Within a b (suc f)) (among n names) _ _ (λ _. (zero-le, zero-le))
+        (λ _. within-onward f n (λ m. follow E seqs f (n ∷ names) m) (within-follow f (n ∷ names)) (checkOne E (textOf E seqs n)) (one n))
 
-  pub chain-within : (n : ℕ) → Within (suc (E .last)) (chainOf E seqs n)
-  unfolding chainOf
-  chain-within n = within-follow (suc (E .last)) [] n
+    pub chain-within : (n : ℕ) → Within a b (suc (E .last)) (chainOf E seqs n)
+    unfolding chainOf
+    chain-within n = within-follow (suc (E .last)) [] n
 
--- no total of a check comes near 2^63
-pub totals-fit : (seqs lists : List ℕ) (n : ℕ) → Octets seqs
-    → (checkOf seqs lists n .steps < 2 ^ 63) × (checkOf seqs lists n .exposures < 2 ^ 63)
-totals-fit seqs lists n oct =
-    of-check (λ t. (t .steps < 2 ^ 63) × (t .exposures < 2 ^ 63)) seqs lists n (λ _. (omega arith, omega arith))
-    (λ _ _. let w = chain-within (envOf lists) seqs oct (omega arith) n in (omega arith, omega arith))
+-- ── the check
+module _ (seqs lists : List ℕ) (oct : Octets seqs) where
+  pub entry-small : (n : ℕ) → Small (2 ^ 54) (checkOne (envOf lists) (entryOf seqs n))
+  entry-small n =
+      let l = entry-short seqs n in
+      one-small (envOf lists) (entryOf seqs n) (part-octets seqs (n * 128) 128 oct) (omega arith)
+
+  -- no total comes near 2^63
+  pub totals-fit : (n : ℕ) → (checkOf seqs lists n .steps < 2 ^ 63) × (checkOf seqs lists n .exposures < 2 ^ 63)
+  totals-fit n =
+      of-check (λ t. (t .steps < 2 ^ 63) × (t .exposures < 2 ^ 63)) seqs lists n (λ _. (omega arith, omega arith))
+      (λ _ _. let w = chain-within (2 ^ 54) (2 ^ 54) (envOf lists) seqs entry-small n in (omega arith, omega arith))

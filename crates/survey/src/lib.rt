@@ -72,7 +72,7 @@ pub struct Report {
     pub exposures: u64,
 }
 
-// The place past the command of this number, or the number itself where none stands there whole.
+// The place past the command at this number, or the number itself where none stands there whole.
 fn past(text: &[u8], number: u8) -> u8
     requires { ⌜ length (now text) ≤ 128 ⌝ }
     ensures { λ r. ⌜ r ≡ number + sizeAt (now (text .entry)) number ⌝ }
@@ -396,7 +396,8 @@ fn check_closing(seqs: &[u8], lists: &[u8], chain: Chain, closing: Closing) -> R
     }
 }
 
-// The table check of a sequence and of those that it calls.
+// The table check of a sequence and of those that it calls, in order: 16 for tables of a wrong size, then 7 for a number above 127, then
+// the chain up to its end, its return or its first fault.
 pub fn check(seqs: &[u8], lists: &[u8], number: u32) -> Report
     ensures { λ r. ⌜ r ≡ reportOf (checkOf (now (seqs .entry)) (now (lists .entry)) number) ⌝ }
 {

@@ -25,12 +25,6 @@ use Rattle.survey.proofs.marked.Reads as marked-reads
 use Rattle.survey.proofs.+check_closing+check_sequence.{statement}
 use Rattle.survey.proofs.+check_closing+check_sequence.Tie.{close}
 
--- The two checks that call each other meet their contracts: the count of unmarked sequences falls, and each way out is a law of the chain.
--- Assumes nothing.
-
--- The two checks that call each other meet their contracts: the count of unmarked sequences falls, and each way out is a law of the chain.
--- Assumes nothing.
-
 abbrev μ-check-closing : Measures 2 check-closing-kinds.ps ℕ
 μ-check-closing κs a = unmarked (a .1 .1 .0 .marks) + unmarked (a .1 .1 .0 .marks) + 1
 

@@ -1,6 +1,7 @@
 -- `past` meets its contract: a number that is a place has that place's command, and past the text none stands. Assumes nothing.
 use native.Mathlib.Omega.{arith}
-use Rattle.survey.proofs.Laws.{past-of, placed-outside, next-low, none-outside}
+use Rattle.runner.proofs.Laws.{next-fits}
+use Rattle.survey.proofs.Laws.{past-of, placed-outside, none-outside}
 use borrow.Author.Needs.{needs}
 use Rattle.survey.proofs.past.Statement.{statement}
 use Rattle.survey.proofs.past.Tie as tie
@@ -17,7 +18,7 @@ past-requires c κs = search needs
 cast-result : tie.Need-cast-result
 cast-result c = let a = c .before .before .before .before .before .before .args in
     let e = past-of (a .text .now) (a .number) _ _ _ (c .before .before .before .before .of .ensures) (c .before .before .at .given .1) (c .past .ensures) in
-    let h = next-low (a .text .now) (a .number) (c .before .before .before .before .before .before .pre) (omega arith) in omega arith
+    let h = next-fits (a .text .now) (a .number) (c .before .before .before .before .before .before .pre) (omega arith) in omega arith
 
 enum-told : tie.Need-enum-told
 enum-told c = search needs

@@ -1,0 +1,103 @@
+-- Laws of digits: a rule of single bytes is one test that computes over all of them; a number in decimal is that of its
+-- tens and one digit more. Assumes nothing.
+use Prim.Native.Nat.{ℕ, zero, suc, _+_, _*_, _-_, _/_, _%_, _^_, _<_, _≤_}
+use native.Mathlib.Nat.{pow-suc}
+use native.Mathlib.Omega.{arith}
+use mathlib.Core.Path.{_≡_, refl, ap, _∙_}
+use mathlib.Core.Bool.{Bool, true, false, cond, _&&_, Bool·beq, false≢true}
+use mathlib.Core.List.{[], _∷_, _++_}
+use lib.Dec.{ltb, eqb}
+use borrow.Author.Tests.{lt-ltb, le-ltb, ltb-true, ltb-false, eqb-true}
+use Rattle.line.specs.Digits.{digitOf, valueOf, isHex, spell, decimal}
+
+-- ── tests of single bytes
+pub both : (a b : Bool) → (a && b) ≡ true → (a ≡ true) × (b ≡ true)
+both true b e = (refl, e)
+both false b e = absurd (false≢true e)
+
+pub either : {P : Type 0} (t : Bool) → (t ≡ true → P) → (t ≡ false → P) → P
+either true f g = f refl
+either false f g = g refl
+
+-- a test holds of every number below a bound
+abbrev below : (ℕ → Bool) → ℕ → Bool
+below f zero = true
+below f (suc n) = f n && below f n
+
+pub tested : (f : ℕ → Bool) (n : ℕ) → below f n ≡ true → (k : ℕ) → k < n → f k ≡ true
+tested f zero e k h = absurd (omega arith)
+tested f (suc n) e k h =
+    let (last, rest) = both (f n) (below f n) e in
+    either (ltb k n)
+    (λ t. tested f n rest k (ltb-true k n t))
+    (λ t. let l = ltb-false k n t in let g : k ≡ n = omega arith in ap f g ∙ last)
+
+same-test : (a b : Bool) → Bool·beq a b ≡ true → a ≡ b
+same-test true true e = refl
+same-test true false e = absurd (false≢true e)
+same-test false true e = absurd (false≢true e)
+same-test false false e = refl
+
+-- the digits, `0` to `9` and `A` to `F`, are two runs of numbers
+abbrev digits-run : ℕ → Bool
+digits-run n = eqb (cond (ltb n 10) (48 + n) (55 + n)) (digitOf n)
+
+digit-run : (n : ℕ) → n < 16 → cond (ltb n 10) (48 + n) (55 + n) ≡ digitOf n
+unfolding digitOf
+digit-run n h = eqb-true (cond (ltb n 10) (48 + n) (55 + n)) (digitOf n) (tested digits-run 16 refl n h)
+
+pub digit-low : (n : ℕ) → n < 10 → 48 + n ≡ digitOf n
+digit-low n h = rw (lt-ltb n 10 h) at (digit-run n (omega arith))
+
+pub digit-high : (n : ℕ) → 10 ≤ n → n < 16 → 55 + n ≡ digitOf n
+digit-high n l h = rw (le-ltb n 10 l) at (digit-run n h)
+
+-- the hex digits among the bytes, as a bit for each from `0` to `f`
+abbrev bitOf : ℕ → Bool
+bitOf b = eqb (35465847073801215 / 2 ^ (b - 48) % 2) 1
+
+abbrev marked : ℕ → Bool
+marked b = cond (ltb b 48) false (cond (ltb 102 b) false (bitOf b))
+
+hex-marked : (b : ℕ) → b < 256 → marked b ≡ isHex b
+unfolding valueOf
+hex-marked b h = same-test (marked b) (isHex b) (tested (λ (n : ℕ). Bool·beq (marked n) (isHex n)) 256 refl b h)
+
+module _ (b : ℕ) (h : b < 256) where
+  pub hex-before : b < 48 → false ≡ isHex b
+  hex-before l = rw (lt-ltb b 48 l) at (hex-marked b h)
+
+  pub hex-past : 48 ≤ b → 102 < b → false ≡ isHex b
+  hex-past k l = rw (le-ltb b 48 k, lt-ltb 102 b l) at (hex-marked b h)
+
+  pub hex-between : 48 ≤ b → b ≤ 102 → bitOf b ≡ isHex b
+  hex-between k l = rw (le-ltb b 48 k, le-ltb 102 b l) at (hex-marked b h)
+
+-- a hex digit's value is its low four bits, and 9 more for a letter
+abbrev valued : ℕ → Bool
+valued b = cond (isHex b) (eqb (b % 16 + b / 64 * 9) (valueOf b)) true
+
+pub hex-value : (b : ℕ) → b < 256 → isHex b ≡ true → b % 16 + b / 64 * 9 ≡ valueOf b
+unfolding valueOf
+hex-value b h e = eqb-true (b % 16 + b / 64 * 9) (valueOf b) (rw e at (tested valued 256 refl b h))
+
+-- ── decimal
+pub tens : (k n : ℕ) → n < 10 ^ suc (suc k) → n / 10 < 10 ^ suc k
+tens k n h = omega (arith, pow-suc 10 (suc k))
+
+-- no more digits are made than the number has
+spell-enough : (k n : ℕ) → n < 10 ^ suc k → spell (suc k) n ≡ spell k n
+unfolding spell
+spell-enough zero n h = rw (lt-ltb n 10 h)
+spell-enough (suc k) n h =
+    either (ltb n 10)
+    (λ t. rw t)
+    (λ t. rw (t, spell-enough k (n / 10) (tens k n h)))
+
+pub decimal-digit : (n : ℕ) → n < 10 → decimal n ≡ digitOf n ∷ []
+unfolding decimal spell
+decimal-digit n h = rw (lt-ltb n 10 h)
+
+pub decimal-more : (n : ℕ) → 10 ≤ n → n < 2 ^ 64 → decimal n ≡ decimal (n / 10) ++ (digitOf (n % 10) ∷ [])
+unfolding decimal spell
+decimal-more n h l = rw (le-ltb n 10 h, ← spell-enough 18 (n / 10) (omega arith))

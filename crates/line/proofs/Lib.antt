@@ -1,0 +1,5 @@
+pub mod DigitLaws
+pub mod WritingLaws
+pub mod ReadingLaws
+pub mod Meanings
+pub mod Samples

@@ -1,0 +1,44 @@
+-- `put_line_2` meets its contract: the word, then each number as one more, then the newline. Assumes nothing.
+use mathlib.Core.List.{[], _∷_}
+use borrow.Author.Needs.{needs}
+use Rattle.line.proofs.WritingLaws.{laid-then, line-word, line-number}
+use Rattle.line.proofs.put_line_2.Statement.{statement}
+use Rattle.line.proofs.put_line_2.Tie as tie
+
+put-word-requires : tie.Need-put-word-requires
+put-word-requires c κs = search needs
+
+put-blank-number-requires : tie.Need-put-blank-number-requires
+put-blank-number-requires c κs = search needs
+
+put-blank-number-requires-2 : tie.Need-put-blank-number-requires-2
+put-blank-number-requires-2 c κs = search needs
+
+put-requires : tie.Need-put-requires
+put-requires c κs = search needs
+
+same-length : tie.Need-same-length
+same-length c = search needs
+
+returns : tie.Need-returns
+returns c =
+    let c₂ = c .before .before in
+    let c₆ = c₂ .before .before .before .before in
+    let c₁₀ = c₆ .before .before .before .before in
+    let c₁₄ = c₁₀ .before .before .before .before in
+    let c₁₈ = c₁₄ .before .before .before .before in
+    let a = c₁₈ .args in
+    let w = a .word .now in
+    let one = line-number w [] (a .a) (line-word w (c₁₄ .put-word .ensures)) (c₁₀ .put-blank-number .ensures) in
+    laid-then (line-number w (a .a ∷ []) (a .b) one (c₆ .put-blank-number2 .ensures)) (c₂ .put .ensures)
+
+pub put-line-2-spec : {M : Type 1} → statement M
+put-line-2-spec =
+    tie.close
+    (tie.spec
+    put-word-requires
+    put-blank-number-requires
+    put-blank-number-requires-2
+    put-requires
+    same-length
+    returns)
