@@ -186,18 +186,40 @@ fn read_piece(
     text: &mut [u8],
 ) -> Read {
     let n = read_some(piece);
-    let mut desk = take_piece(start, seqs, lists, out, held, octets::part(piece, 0, n), text);
+    let mut desk = take_piece(
+        start,
+        seqs,
+        lists,
+        out,
+        held,
+        octets::part(piece, 0, n),
+        text,
+    );
     io::write_all(STDOUT_FILENO, octets::part(text, 0, desk.at));
     desk.at = 0;
     Read { desk, more: 0 < n }
 }
 
 // A last line without a newline.
-fn finish(desk: Desk, seqs: &mut [u8], lists: &mut [u8], out: &mut [u8], held: &[u8], text: &mut [u8]) {
+fn finish(
+    desk: Desk,
+    seqs: &mut [u8],
+    lists: &mut [u8],
+    out: &mut [u8],
+    held: &[u8],
+    text: &mut [u8],
+) {
     if desk.kept == 0 {
         return;
     }
-    let last = take_line(desk, seqs, lists, out, octets::part(held, 0, desk.kept), text);
+    let last = take_line(
+        desk,
+        seqs,
+        lists,
+        out,
+        octets::part(held, 0, desk.kept),
+        text,
+    );
     io::write_all(STDOUT_FILENO, octets::part(text, 0, last.at));
 }
 
@@ -220,7 +242,11 @@ fn run(
     text: &mut [u8],
 ) {
     let unit = Unit::power_on();
-    let mut desk = Desk { unit, kept: 0, at: 0 };
+    let mut desk = Desk {
+        unit,
+        kept: 0,
+        at: 0,
+    };
     let mut turns = u64::MAX;
     while 0 < turns {
         let read = read_piece(desk, seqs, lists, out, held, piece, text);
@@ -237,5 +263,12 @@ fn main() {
     let mut held = [0u8; 512];
     let mut piece = io::large_buffer();
     let mut text = io::large_buffer();
-    run(&mut seqs, &mut lists, &mut out, &mut held, &mut piece, &mut text);
+    run(
+        &mut seqs,
+        &mut lists,
+        &mut out,
+        &mut held,
+        &mut piece,
+        &mut text,
+    );
 }

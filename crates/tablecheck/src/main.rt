@@ -59,7 +59,17 @@ fn put_report(text: &mut [u8], at: usize, word: &[u8], report: Report) -> usize 
         }
         Ending::Finishes => put_passed(text, at, word, b" ENDS", report),
         Ending::Returns => put_passed(text, at, word, b" RETURNS", report),
-        Ending::Faulty(code, sequence, place) => put_fault(text, at, word, Fault { code, sequence, place }, report),
+        Ending::Faulty(code, sequence, place) => put_fault(
+            text,
+            at,
+            word,
+            Fault {
+                code,
+                sequence,
+                place,
+            },
+            report,
+        ),
     }
 }
 
