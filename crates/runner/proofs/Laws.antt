@@ -57,29 +57,29 @@ pub decided : (code code′ : ℕ) (a r : Act) → r ≡ unless code a → code 
 decided code code′ a r e f = e ∙ ap (λ (k : ℕ). unless k a) f
 
 -- ── the ways out of an exposure
--- w: the raster's words, adv: whether the mirror advances, next: the place after it, x: what is answered
-module _ (text : List ℕ) (r : Place) (s : Runner) (p next : ℕ) (w : RasterWords) (adv : Bool)
-    (words : w ≡ rasterAt text (r .0)) (test : adv ≡ advances w s) (here : p ≡ s .place) (on : next ≡ p + sizeAt text p) where
-  advances-as : (b : Bool) → adv ≡ b → advances (rasterAt text (r .0)) s ≡ b
-  advances-as b e = ap (λ (x : RasterWords). advances x s) (sym words) ∙ sym test ∙ e
-
+-- adv: whether the mirror advances, next: the place after it, x: what is answered
+module _ (text : List ℕ) (r : Place) (s : Runner) (p next : ℕ) (adv : Bool)
+    (test : adv ≡ advances (rasterAt text (r .0)) s) (here : p ≡ s .place) (on : next ≡ p + sizeAt text p) where
   next-is : next ≡ past text s
   next-is = on ∙ ap (λ (x : ℕ). x + sizeAt text x) here
 
   pub exposed-stay : (x : Stepped) → adv ≡ false → x ≡ exposedAt next (s .mirror) s → x ≡ exposed text r s
   unfolding exposed
-  exposed-stay x e f = rw (advances-as false e) (f ∙ ap (λ (n : ℕ). exposedAt n (s .mirror) s) next-is)
+  exposed-stay x e f = rw (sym test ∙ e) (f ∙ ap (λ (n : ℕ). exposedAt n (s .mirror) s) next-is)
 
-  pub exposed-past : (x : Stepped) (m : ℕ) → adv ≡ true → m ≡ s .mirror + w .step → 2400 < m → x ≡ aborted 14 (s .place) s → x ≡ exposed text r s
-  unfolding exposed
-  exposed-past x m e k h f = rw (advances-as true e, lt-ltb 2400 (s .mirror + rasterAt text (r .0) .step) (subst (λ (n : ℕ). 2400 < n) (k ∙ ap (λ (y : RasterWords). s .mirror + y .step) words) h)) f
+  module _ (x : Stepped) (e : adv ≡ true) (size m : ℕ) (step-is : size ≡ rasterAt text (r .0) .step) (moved : m ≡ s .mirror + size) where
+    mirror-is : m ≡ s .mirror + rasterAt text (r .0) .step
+    mirror-is = moved ∙ ap (λ (n : ℕ). s .mirror + n) step-is
 
-  pub exposed-move : (x : Stepped) (m : ℕ) → adv ≡ true → m ≡ s .mirror + w .step → m ≤ 2400 → x ≡ exposedAt next m s → x ≡ exposed text r s
-  unfolding exposed
-  exposed-move x m e k h f =
-      let k′ : m ≡ s .mirror + rasterAt text (r .0) .step = k ∙ ap (λ (y : RasterWords). s .mirror + y .step) words in
-      rw (advances-as true e, le-ltb 2400 (s .mirror + rasterAt text (r .0) .step) (subst (λ (n : ℕ). n ≤ 2400) k′ h))
-      (f ∙ ap (λ (n : ℕ). exposedAt n m s) next-is ∙ ap (λ (n : ℕ). exposedAt (past text s) n s) k′)
+    pub exposed-past : 2400 < m → x ≡ aborted 14 (s .place) s → x ≡ exposed text r s
+    unfolding exposed
+    exposed-past h f = rw (sym test ∙ e, lt-ltb 2400 (s .mirror + rasterAt text (r .0) .step) (subst (λ (n : ℕ). 2400 < n) mirror-is h)) f
+
+    pub exposed-move : m ≤ 2400 → x ≡ exposedAt next m s → x ≡ exposed text r s
+    unfolding exposed
+    exposed-move h f =
+        rw (sym test ∙ e, le-ltb 2400 (s .mirror + rasterAt text (r .0) .step) (subst (λ (n : ℕ). n ≤ 2400) mirror-is h))
+        (f ∙ ap (λ (n : ℕ). exposedAt n m s) next-is ∙ ap (λ (n : ℕ). exposedAt (past text s) n s) mirror-is)
 
 -- ── an exposure is judged so only where the set has room
 abbrev CountIs : ℕ → Opened → Type 0

@@ -5,6 +5,7 @@ ghost use Prim.Native.Nat.{_+_, _*_, _-_, _<_, _≤_};
 ghost use lib.ListN.{length};
 ghost use Rattle.octets.specs.Rows.{firstCode};
 ghost use Rattle.sequence.specs.Text.{sizeAt};
+ghost use Rattle.sequence.specs.Raster.{rasterAt};
 ghost use Rattle.sequence.specs.Env.{envOf};
 ghost use Rattle.runner.specs.Judge.{isOpen, openElsewhere, isRunRaster, setOf, full, listBad, pathRows, rasterRows, runRows, exposeRows, loopRows, closeRows, unless, exposesIn, judge};
 ghost use Rattle.runner.specs.Step.{openOf, aborted, entered, begun, advances, exposedAt, exposed, looped, delayed, another, called, ended, Room, act, stepIn, stepOf};
@@ -130,22 +131,19 @@ impl Opened {
     }
 }
 
-// How many exposures fill a set.
-fn set_of(raster: RasterWords) -> u8
-    ensures { λ r. ⌜ r ≡ setOf raster ⌝ }
+// How many exposures fill a set of the raster at a place.
+fn set_of(text: &[u8], raster: Place) -> u8
+    ensures { λ r. ⌜ r ≡ setOf (rasterAt (now (text .entry)) (raster .0)) ⌝ }
 {
-    if raster.exposures <= 8 {
-        raster.exposures
-    } else {
-        8
-    }
+    let exposures = sequence::exposures_at(text, raster);
+    if exposures <= 8 { exposures } else { 8 }
 }
 
 // Whether the set of the raster at a place is full.
 fn full(text: &[u8], raster: Place, count: u8) -> bool
     ensures { λ r. ⌜ r ≡ full (now (text .entry)) raster count ⌝ }
 {
-    set_of(sequence::raster_at(text, raster)) <= count
+    set_of(text, raster) <= count
 }
 
 // Where the last pass of a raster stands: the whole sum, not cut to a word.
@@ -408,14 +406,14 @@ impl Runner {
         }
     }
 
-    // Whether this exposure fills the set and passes remain.
-    fn advances(self, raster: RasterWords) -> bool
-        ensures { λ r. ⌜ r ≡ advances raster self ⌝ }
+    // Whether this exposure fills the set of the raster at a place and passes remain.
+    fn advances(self, text: &[u8], raster: Place) -> bool
+        ensures { λ r. ⌜ r ≡ advances (rasterAt (now (text .entry)) (raster .0)) self ⌝ }
     {
         if self.passes <= 1 {
             return false;
         }
-        self.count as u16 + 1 == set_of(raster) as u16
+        self.count as u16 + 1 == set_of(text, raster) as u16
     }
 
     // The runner past an exposure, at the next place, with the mirror where it stands then.
@@ -438,12 +436,11 @@ impl Runner {
         requires { ⌜ (at .0 ≡ self .place) × (length (now text) ≤ 128) × (self .count < 255) ⌝ }
         ensures { λ r. ⌜ r ≡ exposed (now (text .entry)) raster self ⌝ }
     {
-        let words = sequence::raster_at(text, raster);
         let next = next_place(text, at);
-        if !self.advances(words) {
+        if !self.advances(text, raster) {
             return self.past_exposure(next, self.mirror);
         }
-        let mirror = advanced(self.mirror, words.step);
+        let mirror = advanced(self.mirror, sequence::step_at(text, raster));
         if (Runner::END_STOP as u32) < mirror {
             return self.aborted(14, self.place);
         }

@@ -221,6 +221,20 @@ pub fn raster_at(text: &[u8], at: Place) -> RasterWords
     }
 }
 
+// The exposures in a set of the run raster at a place.
+pub fn exposures_at(text: &[u8], at: Place) -> u8
+    ensures { λ r. ⌜ r ≡ rasterAt (now (text .entry)) (at .0) .exposures ⌝ }
+{
+    byte_after(text, at, 13) % 16
+}
+
+// The mirror's step in the run raster at a place.
+pub fn step_at(text: &[u8], at: Place) -> u16
+    ensures { λ r. ⌜ r ≡ rasterAt (now (text .entry)) (at .0) .step ⌝ }
+{
+    word_after(text, at, 19)
+}
+
 // Whether at most one of the science flags, bits 2 to 5, is set.
 pub fn flags_good(science: u8) -> bool
     ensures { λ r. ⌜ r ≡ flagsGood science ⌝ }
