@@ -31,3 +31,16 @@ pub mod Between
 pub mod Working
 pub mod AsTold
 pub mod Demand3
+pub mod Tests
+pub mod Exactly
+pub mod Acts
+pub mod Faults
+pub mod Needs
+pub mod Leaves
+pub mod Effects
+pub mod Transfers
+pub mod Demand1
+pub mod Demand2
+pub mod EachStep
+pub mod OneAnswer
+pub mod Samples

@@ -4,3 +4,8 @@ pub mod Positions
 pub mod Kept
 pub mod Subjects
 pub mod Demand3
+pub mod Sent
+pub mod Demand1
+pub mod Demand2
+pub mod EachStep
+pub mod OneAnswer

@@ -113,6 +113,11 @@ module _ (u : Unit) (seqs lists out p : List ℕ) where
   sixteen-on h =
       simp (ne-eqb (codeOf u seqs lists out p) 0 (λ z. omega arith), le-leb 16 (codeOf u seqs lists out p) h)
 
+-- whatever its state in range, a unit that is lent the right sizes obeys a status request: no table of rows may refuse everything
+pub status-obeyed : (u : Unit) (seqs lists out : List ℕ) → lentWrong seqs lists out ≡ false → outOfRange u ≡ false → codeOf u seqs lists out (0x01 ∷ []) ≡ 0
+unfolding kindOf ownRows packetRows codeOf
+status-obeyed u seqs lists out lent range = simp (lent, range)
+
 neither : (a b : Bool) → (a || b) ≡ false → (a ≡ false) × (b ≡ false)
 neither true b e = absurd (true≢false e)
 neither false b e = (refl, e)

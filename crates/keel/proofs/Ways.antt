@@ -1,0 +1,164 @@
+-- A law for each way out of the calls, with the callees' equations as premises. Assumes nothing.
+use Prim.Native.Nat.{ℕ, _+_, _*_, _≤_, _<_}
+use native.Mathlib.Omega.{arith}
+use mathlib.Core.Path.{_≡_, refl, sym, ap, _∙_}
+use mathlib.Core.Bool.{Bool, true, false, cond}
+use mathlib.Core.List.{List, [], _∷_, _++_, append-nil, append-assoc}
+use lib.Dec.{leb, eqb}
+use lib.ListN.{length, take, drop, length-append, length-drop, drop-of-length-le}
+use lib.Seq.{take-append-seam, drop-append-add}
+use borrow.Author.Tests.{le-leb, lt-leb, eq-eqb, ne-eqb}
+use Rattle.memory.specs.Memory.{tablesWrong, written}
+use Rattle.runner.specs.declared.Event.{Event}
+use Rattle.runner.specs.Events.{shownAs}
+use Rattle.survey.specs.declared.Report.{Report}
+use Rattle.survey.specs.Chain.{Told, checkOf}
+use Rattle.survey.specs.Report.{endingShown, padded, reportOf}
+use Rattle.unit.specs.declared.Unit.{Unit}
+use Rattle.unit.specs.declared.Kind.{Kind}
+use Rattle.unit.specs.declared.Kind.the-variants.{Status, Dump, Allow, Mode, Clear, Select, Uplink, Foreign, Unheard}
+use Rattle.unit.specs.declared.Answer.{Answer}
+use Rattle.unit.specs.declared.Outcome.the-variants.{Denied, Saw}
+use Rattle.unit.specs.declared.UnitStep.{UnitStep}
+use Rattle.unit.specs.Packet.{lentWrong, codeOf}
+use Rattle.unit.specs.Status.{statusOf, two}
+use Rattle.unit.specs.Answer.{reply, commandOf, obeyedSeqs, obeyedLists, unitAfter, replyOf, answerOf, seqsAfter, listsAfter, outAfter}
+use Rattle.unit.specs.Step.{unitStep}
+use Rattle.unit.proofs.Ways.{dump-short}
+use Rattle.keel.specs.State.{unitOf, stateOf, flagsWrong}
+use Rattle.keel.specs.Calls.{stateSized, heldRows, heldCode, packetCode, packetReply, packetAnswer, stateAfter, keptSeqs, keptLists, keptOut, packed, deniedAs, heldStep, stepAnswer, stateStepped}
+use Rattle.keel.specs.Report.{eight, reportBytes}
+use Rattle.keel.proofs.Laws.{held-high}
+
+-- ── the state
+pub replaced : (b s : List ℕ) → length s ≤ length b → b ++ drop (length b) s ≡ b
+replaced b s h = ap (λ (x : List ℕ). b ++ x) (drop-of-length-le s {i = length b} h) ∙ append-nil b
+
+-- ── an answer's length
+reply-short : (k : Kind) (u : Unit) (time : ℕ) (seqs lists p : List ℕ) → length (reply k u time seqs lists p) ≤ 16384
+unfolding reply statusOf
+reply-short Status u time seqs lists p = omega arith
+reply-short Dump u time seqs lists p = dump-short seqs lists p
+reply-short Allow u time seqs lists p = omega arith
+reply-short Mode u time seqs lists p = omega arith
+reply-short Clear u time seqs lists p = omega arith
+reply-short Select u time seqs lists p = omega arith
+reply-short Uplink u time seqs lists p = omega arith
+reply-short Foreign u time seqs lists p = omega arith
+reply-short Unheard u time seqs lists p = omega arith
+
+either-short : (t : Bool) (a b : List ℕ) (n : ℕ) → length a ≤ n → length b ≤ n → length (cond t a b) ≤ n
+either-short true a b n h k = h
+either-short false a b n h k = k
+
+-- what answers a packet is never longer than the least output that is lent
+pub short : (u : Unit) (time : ℕ) (seqs lists out p : List ℕ) (a : Answer) → a ≡ answerOf u time seqs lists out p → a .length ≤ 16384
+unfolding replyOf answerOf
+short u time seqs lists out p a e =
+    rw e (either-short (eqb (codeOf u seqs lists out p) 0) (reply (commandOf p) u time seqs lists p) [] 16384 (reply-short (commandOf p) u time seqs lists p) (omega arith))
+
+-- ── a packet
+twice : {A : Type 0} (t : Bool) (a b : A) → cond t (cond t a b) b ≡ cond t a b
+twice true a b = refl
+twice false a b = refl
+
+-- an answer laid over the output, or none
+over : (t : Bool) (r out : List ℕ) → cond t (cond t r [] ++ drop (length (cond t r [])) out) out ≡ cond t r [] ++ drop (length (cond t r [])) out
+over true r out = refl
+over false r out = refl
+
+module _ (s : List ℕ) (time : ℕ) (seqs lists out p : List ℕ) where
+  abbrev pub Answered : ℕ → List ℕ → List ℕ → List ℕ → List ℕ → Type 0
+  Answered r s' seqs' lists' out' =
+      (r ≡ packetAnswer s time seqs lists out p)
+      × ((s' ≡ stateAfter s seqs lists out p)
+      × ((seqs' ≡ keptSeqs s seqs lists out p)
+      × ((lists' ≡ keptLists s seqs lists out p)
+      × (out' ≡ keptOut s time seqs lists out p))))
+
+  module _ (lent : Bool) (held : ℕ) (size : lent ≡ lentWrong seqs lists out) (told : held ≡ heldCode lent s) where
+    holds : held ≡ heldCode (lentWrong seqs lists out) s
+    holds = told ∙ ap (λ (t : Bool). heldCode t s) size
+
+    -- the bytes are refused before they are read
+    pub held-back : (held ≡ 0 → ⊥) → Answered held s seqs lists out
+    unfolding packetCode packetReply packetAnswer stateAfter keptSeqs keptLists keptOut
+    held-back n =
+        simp (← holds, ne-eqb held 0 n, le-leb 16 held (held-high lent s held told n)) (omega arith, (refl, (refl, (refl, refl))))
+
+    -- the unit's answer stands, and its state where it is not refused with 16 or 17
+    module _ (none : held ≡ 0) (u : Unit) (read : u ≡ unitOf s) (a : Answer) (seqs' lists' out' : List ℕ)
+        (e : (a ≡ answerOf u time seqs lists out p) × ((seqs' ≡ seqsAfter u seqs lists out p) × ((lists' ≡ listsAfter u seqs lists out p) × (out' ≡ outAfter u time seqs lists out p)))) where
+      answered : (s' : List ℕ) → s' ≡ cond (leb 16 (a .code)) s (stateOf (a .unit)) → Answered (a .code + 256 * a .length) s' seqs' lists' out'
+      unfolding packetCode packetReply packetAnswer stateAfter keptSeqs keptLists keptOut seqsAfter listsAfter outAfter replyOf answerOf
+      answered s' f =
+          simp (← holds, none, ← read, f, e .1 .0, e .1 .1 .0, e .1 .1 .1, e .0, twice, over) (refl, (refl, (refl, (refl, refl))))
+
+      pub stays : 16 ≤ a .code → Answered (a .code + 256 * a .length) s seqs' lists' out'
+      stays h = answered s (simp (le-leb 16 (a .code) h))
+
+      pub moves : (s' : List ℕ) → a .code < 16 → s' ≡ stateOf (a .unit) → Answered (a .code + 256 * a .length) s' seqs' lists' out'
+      moves s' h f = answered s' (simp (lt-leb 16 (a .code) h) f)
+
+-- ── a step
+module _ (s seqs lists : List ℕ) where
+  abbrev pub Stepped : ℕ → List ℕ → Type 0
+  Stepped r s' = (r ≡ stepAnswer s seqs lists) × (s' ≡ stateStepped s seqs lists)
+
+  module _ (lent : Bool) (held : ℕ) (size : lent ≡ tablesWrong seqs lists) (told : held ≡ heldCode lent s) where
+    by-size : held ≡ heldCode (tablesWrong seqs lists) s
+    by-size = told ∙ ap (λ (t : Bool). heldCode t s) size
+
+    pub step-held-back : (held ≡ 0 → ⊥) → Stepped (deniedAs held) s
+    unfolding heldStep stepAnswer stateStepped
+    step-held-back n = simp (← by-size, ne-eqb held 0 n) (refl, refl)
+
+    module _ (none : held ≡ 0) (u : Unit) (read : u ≡ unitOf s) (r : UnitStep) (e : r ≡ unitStep u seqs lists) where
+      pub denies : (code : ℕ) → r .outcome ≡ Denied code → Stepped (deniedAs code) s
+      unfolding heldStep stepAnswer stateStepped
+      denies code o = simp (← by-size, none, ← read, ← e, o) (refl, refl)
+
+      pub sees : (event : Event) (s' : List ℕ) → r .outcome ≡ Saw event → s' ≡ stateOf (r .unit) → Stepped (packed (shownAs (r .unit .watch .exposures) event)) s'
+      unfolding heldStep stepAnswer stateStepped
+      sees event s' o f = simp (← by-size, none, ← read, ← e, o, f) (refl, refl)
+
+-- ── a report
+-- a part written after what is written already
+next : (p r d : List ℕ) (at : ℕ) → length p ≡ at → length d ≤ length r → written (p ++ r) at d ≡ (p ++ d) ++ drop (length d) r
+next p r d at e h =
+    let fits : length p + length d ≤ length (p ++ r) = simp length-append (omega arith) in
+    simp (← e, le-leb (length p + length d) (length (p ++ r)) fits, take-append-seam, drop-append-add, append-assoc)
+
+laid-out : (r a b c d : List ℕ) → length r ≡ 152 → length a ≡ 8 → length b ≡ 8 → length c ≡ 8 → length d ≡ 128
+    → written (written (written (written r 0 a) 8 b) 16 c) 24 d ≡ a ++ (b ++ (c ++ d))
+laid-out r a b c d h ha hb hc hd =
+    let r1 = drop (length a) r in
+    let r2 = drop (length b) r1 in
+    let r3 = drop (length c) r2 in
+    let l1 = length-drop (length a) r in
+    let l2 = length-drop (length b) r1 in
+    let l3 = length-drop (length c) r2 in
+    let ab = length-append a b in
+    let abc = length-append (a ++ b) c in
+    ap (λ (w : List ℕ). written (written (written w 8 b) 16 c) 24 d) (next [] r a 0 refl (omega arith))
+    ∙ ap (λ (w : List ℕ). written (written w 16 c) 24 d) (next a r1 b 8 ha (omega arith))
+    ∙ ap (λ (w : List ℕ). written w 24 d) (next (a ++ b) r2 c 16 (omega arith) (omega arith))
+    ∙ next ((a ++ b) ++ c) r3 d 24 (omega arith) (omega arith)
+    ∙ ap (λ (x : List ℕ). (((a ++ b) ++ c) ++ d) ++ x) (drop-of-length-le r3 {i = length d} (omega arith))
+    ∙ simp (append-nil, append-assoc)
+
+-- how the check ended, steps, exposures and chain of what was found, written one after another
+pub reported : (found : Report) (t : Told) (r : List ℕ) (code number sequence place : ℕ) (steps exposures w1 w2 w3 w4 : List ℕ)
+    → found ≡ reportOf t → length r ≡ 152 → length (found .listed) ≡ 128
+    → code ≡ endingShown (found .ending) .code → number ≡ endingShown (found .ending) .number
+    → sequence ≡ endingShown (found .ending) .sequence → place ≡ endingShown (found .ending) .place
+    → steps ≡ eight (found .steps) → exposures ≡ eight (found .exposures)
+    → w1 ≡ written r 0 (code ∷ number ∷ sequence ∷ place ∷ 0 ∷ 0 ∷ two (found .count))
+    → w2 ≡ written w1 8 steps → w3 ≡ written w2 16 exposures → w4 ≡ written w3 24 (found .listed)
+    → w4 ≡ reportBytes t
+unfolding reportOf reportBytes
+reported found t r code number sequence place steps exposures w1 w2 w3 w4 e h hl ec en es ep e1 e2 f1 f2 f3 f4 =
+    let head = code ∷ number ∷ sequence ∷ place ∷ 0 ∷ 0 ∷ two (found .count) in
+    let l1 : length steps ≡ 8 = ap length e1 in
+    let l2 : length exposures ≡ 8 = ap length e2 in
+    f4 ∙ simp (f3, f2, f1) (laid-out r head steps exposures (found .listed) h refl l1 l2 hl ∙ simp (ec, en, es, ep, e1, e2, e))

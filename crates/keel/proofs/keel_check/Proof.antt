@@ -1,0 +1,48 @@
+use mathlib.Core.Path.{_∙_, ap}
+use Rattle.survey.specs.declared.Report.{Report}
+use Rattle.survey.specs.Report.{endingShown, reportOf}
+use borrow.Author.Tests.{eq-eqb, ne-eqb}
+use lib.ListN.{length}
+use Rattle.survey.specs.Chain.{checkOf}
+use Rattle.keel.specs.Report.{checkAnswer, reportAfter}
+use borrow.Author.Needs.{needs}
+use Rattle.keel.proofs.keel_check.Statement.{statement}
+use Rattle.keel.proofs.keel_check.Tie as tie
+use Rattle.keel.proofs.keel_check.Reads as reads
+use Rattle.keel.proofs.keel_check.Lts as lts
+use Rattle.keel.proofs.tell.Reads as tell-reads
+use Rattle.survey.proofs.check.Reads as check-reads
+
+-- src/lib.rt:335:9
+returns : tie.Need-returns
+unfolding checkAnswer reportAfter
+returns c = let n = ne-eqb (length (c .before .before .before .before .args .report .now)) 152 (c .if1 .taken) in (simp n, simp n)
+
+-- src/lib.rt:337:10
+check-requires : tie.Need-check-requires
+check-requires c κs = search needs
+
+-- src/lib.rt:337:5
+tell-requires : tie.Need-tell-requires
+tell-requires c κs = search needs
+
+-- src/lib.rt:337:5
+cast-result : tie.Need-cast-result
+cast-result c = search needs
+
+-- src/lib.rt:329:1
+same-length : tie.Need-same-length
+same-length c = search needs
+
+-- src/lib.rt:329:1
+returns-2 : tie.Need-returns-2
+unfolding reportOf checkAnswer reportAfter
+returns-2 c = let a = c .before .before .before .before .before .before .before .before .before .args in
+    let y = eq-eqb (length (a .report .now)) 152 (c .before .before .before .before .before .if1 .left) in
+    let e = c .before .before .before .before .check .ensures in
+    let f = c .before .before .tell .ensures in
+    (simp y (f .0 ∙ ap (λ (r : Report). endingShown (r .ending) .code) e), simp y (f .1 (checkOf (a .seqs .now) (a .lists .now) (a .number)) e))
+
+pub keel-check-spec : {M : Type 1} → statement M
+keel-check-spec =
+    tie.close (tie.spec returns check-requires tell-requires cast-result same-length returns-2)

@@ -1,0 +1,138 @@
+use mathlib.Core.Path.{_∙_, sym}
+use Rattle.keel.proofs.Laws.{held-passed}
+use Rattle.keel.proofs.Ways.{short, held-back, stays, moves}
+use borrow.Author.Needs.{needs}
+use Rattle.keel.proofs.keel_packet.Statement.{statement}
+use Rattle.keel.proofs.keel_packet.Tie as tie
+use Rattle.keel.proofs.keel_packet.Reads as reads
+use Rattle.keel.proofs.keel_packet.Lts as lts
+use Rattle.keel.proofs.answer_of.Reads as answer-of-reads
+use Rattle.keel.proofs.held_code.Reads as held-code-reads
+use Rattle.keel.proofs.lent_wrong.Reads as lent-wrong-reads
+use Rattle.keel.proofs.save.Reads as save-reads
+use Rattle.keel.proofs.unit_of.Reads as unit-of-reads
+use Rattle.unit.proofs.Unit.packet.Reads as packet-reads
+
+-- src/lib.rt:193:26
+lent-wrong-requires : tie.Need-lent-wrong-requires
+lent-wrong-requires c κs = search needs
+
+-- src/lib.rt:193:9
+held-code-requires : tie.Need-held-code-requires
+held-code-requires c κs = search needs
+
+-- src/lib.rt:195:16
+cast-result : tie.Need-cast-result
+cast-result c = search needs
+
+-- src/lib.rt:195:9
+same-length : tie.Need-same-length
+same-length c = search needs
+
+-- src/lib.rt:195:9
+same-length-2 : tie.Need-same-length-2
+same-length-2 c = search needs
+
+-- src/lib.rt:195:9
+same-length-3 : tie.Need-same-length-3
+same-length-3 c = search needs
+
+-- src/lib.rt:195:9
+same-length-4 : tie.Need-same-length-4
+same-length-4 c = search needs
+
+-- src/lib.rt:195:9
+returns : tie.Need-returns
+returns c = let a = c .before .before .before .before .before .before .before .before .before .before .before .before .args in
+    held-back (a .state .now) (a .time) (a .seqs .now) (a .lists .now) (a .out .now) (a .packet .now) _ _ (c .before .before .before .lent-wrong .ensures) (c .before .held-code .ensures) (c .if1 .taken)
+
+-- src/lib.rt:197:18
+unit-of-requires : tie.Need-unit-of-requires
+unit-of-requires c κs = held-passed _ _ (sym (c .before .before .held-code .ensures) ∙ c .before .if1 .left) .0
+
+-- src/lib.rt:197:9
+packet-requires : tie.Need-packet-requires
+packet-requires c κs = search needs
+
+-- src/lib.rt:198:9
+answer-of-requires : tie.Need-answer-of-requires
+answer-of-requires c κs = let b = c .before .before .before .before .before .before in
+    let a = b .before .before .before .before .before .before .before .before .before .before .before .before .before .before .before .before .before .before .args in
+    short (b .before .before .before .before .unit-of .result) (a .time) (a .seqs .now) (a .lists .now) (a .out .now) (a .packet .now) (b .packet .result) (b .packet .ensures .0)
+
+-- src/lib.rt:200:9
+same-length-5 : tie.Need-same-length-5
+same-length-5 c = search needs
+
+-- src/lib.rt:200:9
+same-length-6 : tie.Need-same-length-6
+same-length-6 c = search needs
+
+-- src/lib.rt:200:9
+same-length-7 : tie.Need-same-length-7
+same-length-7 c = search needs
+
+-- src/lib.rt:200:9
+same-length-8 : tie.Need-same-length-8
+same-length-8 c = search needs
+
+-- src/lib.rt:200:9
+returns-2 : tie.Need-returns-2
+returns-2 c = let b = c .before .before .before .before .before .before .before .before .before in
+    let d = b .before .before .before .before .before .before .before in
+    let a = d .before .before .before .before .before .before .before .before .before .before .before .args in
+    rw (c .before .before .answer-of .ensures) (stays (a .state .now) (a .time) (a .seqs .now) (a .lists .now) (a .out .now) (a .packet .now) _ _ (d .before .before .lent-wrong .ensures) (d .held-code .ensures) (b .before .before .before .before .before .before .if1 .left) (b .before .before .before .before .unit-of .result) (b .before .before .before .before .unit-of .ensures) (b .packet .result) _ _ _ (b .packet .ensures) (c .if2 .taken))
+
+-- src/lib.rt:202:5
+save-requires : tie.Need-save-requires
+save-requires c κs = let h = c .before .before .before .before .before .before .before .before .before .before .before .before .before .before .before .before .before in held-passed _ _ (sym (h .held-code .ensures) ∙ c .before .before .before .before .before .before .before .before .before .before .before .before .before .before .before .before .if1 .left) .0
+
+-- src/lib.rt:185:1
+same-length-9 : tie.Need-same-length-9
+same-length-9 c = search needs
+
+-- src/lib.rt:185:1
+same-length-10 : tie.Need-same-length-10
+same-length-10 c = search needs
+
+-- src/lib.rt:185:1
+same-length-11 : tie.Need-same-length-11
+same-length-11 c = search needs
+
+-- src/lib.rt:185:1
+same-length-12 : tie.Need-same-length-12
+same-length-12 c = search needs
+
+-- src/lib.rt:185:1
+returns-3 : tie.Need-returns-3
+returns-3 c = let b = c .before .before .before .before .before .before .before .before .before .before .before .before .before in
+    let d = b .before .before .before .before .before .before .before in
+    let a = d .before .before .before .before .before .before .before .before .before .before .before .args in
+    rw (c .before .before .before .before .before .before .answer-of .ensures) (moves (a .state .now) (a .time) (a .seqs .now) (a .lists .now) (a .out .now) (a .packet .now) _ _ (d .before .before .lent-wrong .ensures) (d .held-code .ensures) (b .before .before .before .before .before .before .if1 .left) (b .before .before .before .before .unit-of .result) (b .before .before .before .before .unit-of .ensures) (b .packet .result) _ _ _ (b .packet .ensures) _ (c .before .before .before .before .if2 .left) (c .before .before .save .ensures))
+
+pub keel-packet-spec : {M : Type 1} → statement M
+keel-packet-spec =
+    tie.close
+    (tie.spec
+    lent-wrong-requires
+    held-code-requires
+    cast-result
+    same-length
+    same-length-2
+    same-length-3
+    same-length-4
+    returns
+    unit-of-requires
+    packet-requires
+    answer-of-requires
+    same-length-5
+    same-length-6
+    same-length-7
+    same-length-8
+    returns-2
+    save-requires
+    same-length-9
+    same-length-10
+    same-length-11
+    same-length-12
+    returns-3)

@@ -1,0 +1,95 @@
+-- Demand 1, proved: a code that is not 0 leaves the answer's other cases to the definitions, and a step's outcome tells which way it went.
+-- Assumes nothing.
+use Prim.Native.Nat.{ℕ, _≤_, _<_}
+use native.Mathlib.Omega.{arith}
+use mathlib.Core.Path.{_≡_, refl, sym, ap, subst}
+use mathlib.Core.Logic.{_⊎_, inl, inr}
+use borrow.Author.Tests.{lt-leb, ne-eqb}
+use Rattle.sequence.specs.Env.{envOf}
+use Rattle.runner.specs.declared.Event.the-variants.{Idle}
+use Rattle.runner.specs.declared.Stepped.{Stepped}
+use Rattle.runner.specs.Step.{to}
+use Rattle.runner.proofs.Laws.{step-idle}
+use Rattle.unit.specs.declared.Unit.{Unit as ControlUnit}
+use Rattle.unit.specs.declared.Outcome.the-variants.{Denied, Saw}
+use Rattle.unit.specs.declared.UnitStep.{UnitStep}
+use Rattle.unit.specs.State.{withLedger, failed}
+use Rattle.unit.specs.Packet.{codeOf}
+use Rattle.unit.specs.Answer.{refusedUnit, unitAfter, replyOf, answerOf}
+use Rattle.unit.specs.Step.{taken}
+use Rattle.unit.proofs.Laws.{own-codes, sixteen-on}
+use Rattle.unit.proofs.Laws.{refused-keeps as kept}
+use Rattle.promises.specs.Sent.{Sent, code, after, TablesKept, NoAnswer}
+use Rattle.promises.specs.Demand1.{NoOtherCode, Refused, RefusedKeeps, Unchanged, SixteenKeeps, SeventeenKeeps, DeniedKeeps, IdleKeeps}
+use Rattle.promises.proofs.Exactly.{step-case}
+use Rattle.promises.proofs.Faults.{idle-stops}
+
+pub no-other-code : NoOtherCode
+unfolding answerOf
+no-other-code s = own-codes (s .unit) (s .seqs) (s .lists) (s .out) (s .bytes)
+
+-- ── a packet that is not obeyed
+module _ (s : Sent) (refused : code s ≡ 0 → ⊥) where
+  keeps-tables : TablesKept s
+  unfolding answerOf
+  keeps-tables =
+      let k = kept (s .unit) (s .seqs) (s .lists) (s .out) (s .bytes) (s .time) refused in
+      record { sequences = k .sequences; lineLists = k .linelists }
+
+  says-nothing : NoAnswer s
+  unfolding answerOf replyOf
+  says-nothing =
+      let c = codeOf (s .unit) (s .seqs) (s .lists) (s .out) (s .bytes) in
+      record {
+        size = simp (ne-eqb c 0 refused);
+        output = kept (s .unit) (s .seqs) (s .lists) (s .out) (s .bytes) (s .time) refused .output;
+      }
+
+module _ (s : Sent) (some : 0 < code s) (below : code s < 16) where
+  counted-failed : after s ≡ withLedger (failed (s .bytes) (code s) (s .unit .ledger)) (s .unit)
+  unfolding answerOf unitAfter refusedUnit
+  counted-failed =
+      let c = codeOf (s .unit) (s .seqs) (s .lists) (s .out) (s .bytes) in
+      simp (ne-eqb c 0 (λ z. omega arith), lt-leb 16 c below)
+
+pub refused-keeps : RefusedKeeps
+refused-keeps s some below = (
+  subst (Refused (s .bytes) (code s) (s .unit)) (sym (counted-failed s some below))
+      (record { received = refl; failed = refl; number = refl; code = refl; log = refl; control = refl; watch = refl; runner = refl }),
+  keeps-tables s (λ z. omega arith),
+  says-nothing s (λ z. omega arith),
+)
+
+nothing-changed : (s : Sent) → 16 ≤ code s → Unchanged s
+unfolding answerOf
+nothing-changed s h =
+    (sixteen-on (s .unit) (s .seqs) (s .lists) (s .out) (s .bytes) h, keeps-tables s (λ z. omega arith), says-nothing s (λ z. omega arith))
+
+pub sixteen-keeps : SixteenKeeps
+sixteen-keeps s e = nothing-changed s (omega arith)
+
+pub seventeen-keeps : SeventeenKeeps
+seventeen-keeps s e = nothing-changed s (omega arith)
+
+-- ── steps
+pub denied-keeps : DeniedKeeps
+unfolding taken
+denied-keeps u seqs lists c =
+    step-case (λ (x : UnitStep). x .outcome ≡ Denied c → ((c ≡ 16) ⊎ (c ≡ 17)) × (x .unit ≡ u)) u seqs lists
+    (λ e. let z : _≡_ {A = ℕ} 0 1 = cc in absurd (omega arith))
+    (λ e. (inl (cc), refl))
+    (λ e. (inr (cc), refl))
+
+-- an idle step taken into the unit is the unit
+taken-idle : (u : ControlUnit) (r : Stepped) → r ≡ to Idle (u .runner) → taken u r .unit ≡ u
+unfolding taken
+taken-idle u r e = ap (λ (x : Stepped). taken u x .unit) e
+
+pub idle-keeps : IdleKeeps
+unfolding taken
+idle-keeps u seqs lists =
+    let E = envOf lists in
+    step-case (λ (x : UnitStep). x .outcome ≡ Saw Idle → x .unit ≡ u) u seqs lists
+    (λ e. taken-idle u _ (sym (step-idle E seqs (u .runner) (idle-stops E seqs (u .runner) (cc)))))
+    (λ e. refl)
+    (λ e. refl)

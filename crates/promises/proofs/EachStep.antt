@@ -1,0 +1,152 @@
+-- Each step, proved: a command that no row refuses is judged as its act, and the act's definition does what is said.
+-- Assumes nothing.
+use Prim.Native.Nat.{ℕ, _+_, _<_}
+use mathlib.Core.Path.{_≡_, refl, ap, subst, _∙_}
+use mathlib.Core.Bool.{Bool, true, false, _&&_}
+use mathlib.Core.List.{List, [], _∷_, _++_}
+use lib.Dec.{ltb, eqb}
+use borrow.Author.Tests.{lt-ltb, le-ltb, eq-eqb, ltb-true, eqb-true}
+use Rattle.octets.specs.Rows.{Row, NoneHolds}
+use Rattle.octets.proofs.Laws.{no-code}
+use Rattle.memory.specs.declared.Place.{Place}
+use Rattle.sequence.specs.declared.Command.{Command}
+use Rattle.sequence.specs.declared.Command.the-variants.{RunRaster, Expose, LoopBack, CallSequence, Terminate, Delay}
+use Rattle.sequence.specs.declared.RasterWords.{RasterWords}
+use Rattle.sequence.specs.Text.{headerRows, headerOf}
+use Rattle.sequence.specs.Raster.{rasterAt}
+use Rattle.sequence.specs.Env.{Env}
+use Rattle.sequence.proofs.Laws.{and-both, Bytes, command-bytes}
+use Rattle.runner.specs.declared.Runner.{Runner}
+use Rattle.runner.specs.declared.Opened.{Opened}
+use Rattle.runner.specs.declared.Opened.the-variants.{Open}
+use Rattle.runner.specs.declared.Act.{Act}
+use Rattle.runner.specs.declared.Act.the-variants.{Opens, Exposes, Loops, Waits, Calls, Ends}
+use Rattle.runner.specs.Judge.{setOf, exposeRows, closeRows, judged, judge}
+use Rattle.runner.specs.Step.{openOf, entered, begun, advances, exposed, looped, delayed, called, ended, act, stepIn, stepOf}
+use Rattle.runner.proofs.Exactly.{run-raster-exactly, expose-exactly, loop-back-exactly, call-exactly, terminate-exactly}
+use Rattle.promises.specs.Demand2.{advanceRows, callRows}
+use Rattle.promises.specs.EachStep.{here, Obeys, EnterStep, RasterStep, ExposeAdvances, ExposeStays, LoopJumps, LoopRepeats, LoopCloses, DelayStep, CallRepeats, TerminateRepeats, CallMade, TerminateEnds}
+
+pub enter-step : EnterStep
+unfolding stepOf stepIn entered headerOf
+enter-step E seqs s r e n = simp (r, e, no-code (headerRows (here E seqs s)) n)
+
+-- of two tables, one after the other
+front-rows : (rs more : List Row) → NoneHolds (rs ++ more) → NoneHolds rs
+front-rows [] more n = tt
+front-rows (r ∷ rs) more n = (n .0, front-rows rs more (n .1))
+
+back-rows : (rs more : List Row) → NoneHolds (rs ++ more) → NoneHolds more
+back-rows [] more n = n
+back-rows (r ∷ rs) more n = back-rows rs more (n .1)
+
+-- ── a step at a command is what the runner does with its judgement
+module _ (E : Env) (seqs : List ℕ) (s : Runner) where
+  abbrev text : List ℕ
+  text = here E seqs s
+
+  abbrev Does : Act → Type 0
+  Does a = stepOf E seqs s ≡ act (E .last) text s a
+
+  step-at : (k : Command) (a : Act) → Obeys E seqs s k → judged E text (s .place) (openOf s) k ≡ a → Does a
+  unfolding stepOf stepIn judge
+  step-at k a o j =
+      simp (o .running, o .entered)
+      (ap (λ (x : Command). act (E .last) text s (judged E text (s .place) (openOf s) x)) (o .command) ∙ ap (act (E .last) text s) j)
+
+  at-raster : Obeys E seqs s RunRaster → Does Opens
+  at-raster o = step-at RunRaster Opens o (run-raster-exactly E text (s .place) (openOf s) .obeyed .1 (o .accepted))
+
+  at-loop : (t : ℕ) → Obeys E seqs s (LoopBack t) → Does (Loops t)
+  at-loop t o = step-at (LoopBack t) (Loops t) o (loop-back-exactly E text (s .place) t (openOf s) .obeyed .1 (o .accepted))
+
+  at-delay : (time : ℕ) → Obeys E seqs s (Delay time) → Does Waits
+  unfolding judged
+  at-delay time o = step-at (Delay time) Waits o refl
+
+  at-call : (n : ℕ) → Obeys E seqs s (CallSequence n) → Does (Calls n)
+  at-call n o =
+      step-at (CallSequence n) (Calls n) o
+      (call-exactly E text (s .place) n (openOf s) .obeyed .1 (front-rows (closeRows text (s .place) (openOf s)) (callRows E s n) (o .accepted)))
+
+  at-terminate : Obeys E seqs s Terminate → Does Ends
+  at-terminate o = step-at Terminate Ends o (terminate-exactly E text (s .place) (openOf s) .obeyed .1 (o .accepted))
+
+  module _ (time : ℕ) (r : Place) (c : ℕ) (o : Obeys E seqs s (Expose time)) (held : openOf s ≡ Open r c) where
+    none : NoneHolds (exposeRows text time (Open r c) ++ advanceRows text s (Open r c))
+    none = subst (λ (x : Opened). NoneHolds (exposeRows text time x ++ advanceRows text s x)) held (o .accepted)
+
+    at-expose : Does (Exposes r)
+    at-expose =
+        step-at (Expose time) (Exposes r) o
+        (ap (λ (x : Opened). judged E text (s .place) x (Expose time)) held
+        ∙ expose-exactly E text (s .place) time r c .obeyed .1 (front-rows (exposeRows text time (Open r c)) (advanceRows text s (Open r c)) none))
+
+    in-reach : (advances (rasterAt text (r .0)) s && ltb 2400 (s .mirror + rasterAt text (r .0) .step)) ≡ false
+    in-reach = back-rows (exposeRows text time (Open r c)) (advanceRows text s (Open r c)) none .0
+
+-- ── the commands
+pub raster-step : RasterStep
+unfolding act begun
+raster-step E seqs s o = at-raster E seqs s o
+
+advances-told : (raster : RasterWords) (s : Runner) → advances raster s ≡ true → (1 < s .passes) × (s .count + 1 ≡ setOf raster)
+unfolding advances
+advances-told raster s e =
+    let (p, q) = and-both (ltb 1 (s .passes)) (eqb (s .count + 1) (setOf raster)) e in
+    (ltb-true 1 (s .passes) p, eqb-true (s .count + 1) (setOf raster) q)
+
+advances-test : (raster : RasterWords) (s : Runner) → 1 < s .passes → s .count + 1 ≡ setOf raster → advances raster s ≡ true
+unfolding advances
+advances-test raster s h e = simp (lt-ltb 1 (s .passes) h, eq-eqb (s .count + 1) (setOf raster) e)
+
+pub expose-advances : ExposeAdvances
+unfolding act exposed
+expose-advances E seqs s time r c o held h e =
+    let a = advances-test (rasterAt (here E seqs s) (r .0)) s h e in
+    let past = simp a at (in-reach E seqs s time r c o held) in
+    at-expose E seqs s time r c o held ∙ simp (a, past)
+
+pub expose-stays : ExposeStays
+unfolding act exposed
+expose-stays E seqs s time r c o held f =
+    let raster = rasterAt (here E seqs s) (r .0) in
+    let stays : (b : Bool) → advances raster s ≡ b → b ≡ false =
+    λ b e. elim b as (λ x. advances raster s ≡ x → x ≡ false) [ true ↦ λ e. let (p, q) = advances-told raster s e in absurd (f p q) | false ↦ λ e. refl ] e in
+    at-expose E seqs s time r c o held ∙ simp (stays (advances raster s) refl)
+
+pub loop-jumps : LoopJumps
+unfolding act looped
+loop-jumps E seqs s t o h = at-loop E seqs s t o ∙ simp (lt-ltb 1 (s .passes) h)
+
+pub loop-repeats : LoopRepeats
+unfolding act looped
+loop-repeats E seqs s t o h k = at-loop E seqs s t o ∙ simp (le-ltb 1 (s .passes) h, lt-ltb 1 (s .repeats) k)
+
+pub loop-closes : LoopCloses
+unfolding act looped
+loop-closes E seqs s t o h k = at-loop E seqs s t o ∙ simp (le-ltb 1 (s .passes) h, le-ltb 1 (s .repeats) k)
+
+pub delay-step : DelayStep
+unfolding act delayed
+delay-step E seqs s time o =
+    let operand = subst (Bytes (here E seqs s) (s .place)) (o .command) (command-bytes (here E seqs s) (s .place)) .1 in
+    at-delay E seqs s time o ∙ simp operand
+
+pub call-repeats : CallRepeats
+unfolding act called
+call-repeats E seqs s n o h = at-call E seqs s n o ∙ simp (lt-ltb 1 (s .rounds) h)
+
+pub terminate-repeats : TerminateRepeats
+unfolding act ended
+terminate-repeats E seqs s o h = at-terminate E seqs s o ∙ simp (lt-ltb 1 (s .rounds) h)
+
+pub call-made : CallMade
+unfolding act called
+call-made E seqs s n o h =
+    let low = simp (le-ltb 1 (s .rounds) h) at (back-rows (closeRows (here E seqs s) (s .place) (openOf s)) (callRows E s n) (o .accepted) .0) in
+    at-call E seqs s n o ∙ simp (le-ltb 1 (s .rounds) h, low)
+
+pub terminate-ends : TerminateEnds
+unfolding act ended
+terminate-ends E seqs s o h = at-terminate E seqs s o ∙ simp (le-ltb 1 (s .rounds) h)

@@ -1,0 +1,270 @@
+-- One answer, proved: each contract is an equation with a definition of specs/, so two results are equal to the same thing.
+-- Assumes nothing.
+use mathlib.Core.Path.{sym, _∙_}
+use Rattle.promises.specs.OneAnswer.{
+  OneOctetsByte,
+  OneOctetsWord,
+  OneOctetsTriple,
+  OneOctetsPart,
+  OneOctetsXorOn,
+  OneOctetsRefuse,
+  OneMemoryPlaceOf,
+  OneMemoryPlaceNumber,
+  OneMemoryAddressOf,
+  OneMemoryAddressRange,
+  OneMemoryRangeAt,
+  OneMemoryTablesWrong,
+  OneMemoryWindowCode,
+  OneMemoryWindow,
+  OneMemoryWrite,
+  OneMemoryWriteRange,
+  OneMemoryEntry,
+  OneMemoryList,
+  OneSequenceSizeOf,
+  OneSequenceLimit,
+  OneSequenceLengthGood,
+  OneSequenceXorGood,
+  OneSequenceHeaderOf,
+  OneSequenceCommandAt,
+  OneSequenceRasterAt,
+  OneSequenceFlagsGood,
+  OneSequenceListTest,
+  OneSequencePast,
+  OneSequenceTargetGood,
+  OneRunnerJudge,
+  OneRunnerRunnerStep,
+  OneSurveyCheck,
+  OneUnitUnitPowerOn,
+  OneUnitUnitOutOfRange,
+  OneUnitKindOf,
+  OneUnitUnitPacket,
+  OneUnitWindowCode,
+  OneUnitWindow,
+  OneUnitUnitStep,
+  OneSequenceExposuresAt,
+  OneSequenceStepAt,
+  OneLinePut,
+  OneLinePutWord,
+  OneLinePutNumber,
+  OneLinePutBlankNumber,
+  OneLinePutNumbers,
+  OneLinePutOctet,
+  OneLinePutOctets,
+  OneLinePutAnswer,
+  OneLinePutBlock,
+  OneLinePutEvent,
+  OneLinePutBad,
+  OneLineIsHex,
+  OneLineFigures,
+  OneLineNumber,
+  OneLineLineEnd,
+  OneLineIsBlank,
+  OneLineNextWord,
+  OneLineBegins,
+  OneLineReadLine,
+  OneKeelKeelPowerOn,
+  OneKeelKeelPacket,
+  OneKeelKeelStep,
+  OneKeelKeelCheck,
+}
+
+-- ── octets
+pub one-result-octets-byte : OneOctetsByte
+one-result-octets-byte κs a r r′ e e′ p q = p ∙ sym q
+
+pub one-result-octets-word : OneOctetsWord
+one-result-octets-word κs a r r′ e e′ p q = p ∙ sym q
+
+pub one-result-octets-triple : OneOctetsTriple
+one-result-octets-triple κs a r r′ e e′ p q = p ∙ sym q
+
+pub one-result-octets-part : OneOctetsPart
+one-result-octets-part κs a r r′ e e′ p q = p ∙ sym q
+
+pub one-result-octets-xor-on : OneOctetsXorOn
+one-result-octets-xor-on κs a r r′ e e′ p q = p ∙ sym q
+
+pub one-result-octets-refuse : OneOctetsRefuse
+one-result-octets-refuse κs a r r′ e e′ p q = p ∙ sym q
+
+-- ── memory
+pub one-result-memory-Place-of : OneMemoryPlaceOf
+one-result-memory-Place-of κs a r r′ e e′ p q = p ∙ sym q
+
+pub one-result-memory-Place-number : OneMemoryPlaceNumber
+one-result-memory-Place-number κs a r r′ e e′ p q = p ∙ sym q
+
+pub one-result-memory-Address-of : OneMemoryAddressOf
+one-result-memory-Address-of κs a r r′ e e′ p q = p ∙ sym q
+
+pub one-result-memory-Address-range : OneMemoryAddressRange
+one-result-memory-Address-range κs a r r′ e e′ p q = p ∙ sym q
+
+pub one-result-memory-range-at : OneMemoryRangeAt
+one-result-memory-range-at κs a r r′ e e′ p q = p ∙ sym q
+
+pub one-result-memory-tables-wrong : OneMemoryTablesWrong
+one-result-memory-tables-wrong κs a r r′ e e′ p q = p ∙ sym q
+
+pub one-result-memory-window-code : OneMemoryWindowCode
+one-result-memory-window-code κs a r r′ e e′ p q = p ∙ sym q
+
+pub one-result-memory-window : OneMemoryWindow
+one-result-memory-window κs a r r′ e e′ p q = p ∙ sym q
+
+pub one-result-memory-write : OneMemoryWrite
+one-result-memory-write κs a r r′ e e′ p q = p ∙ sym q
+
+pub one-result-memory-write-range : OneMemoryWriteRange
+one-result-memory-write-range κs a r r′ e e′ p q = λ i. ((p .0 ∙ sym (q .0)) i, (p .1 ∙ sym (q .1)) i)
+
+pub one-result-memory-entry : OneMemoryEntry
+one-result-memory-entry κs a r r′ e e′ p q = p ∙ sym q
+
+pub one-result-memory-list : OneMemoryList
+one-result-memory-list κs a r r′ e e′ p q = p ∙ sym q
+
+-- ── sequence
+pub one-result-sequence-size-of : OneSequenceSizeOf
+one-result-sequence-size-of κs a r r′ e e′ p q = p .0 ∙ sym (q .0)
+
+pub one-result-sequence-limit : OneSequenceLimit
+one-result-sequence-limit κs a r r′ e e′ p q = p ∙ sym q
+
+pub one-result-sequence-length-good : OneSequenceLengthGood
+one-result-sequence-length-good κs a r r′ e e′ p q = p ∙ sym q
+
+pub one-result-sequence-xor-good : OneSequenceXorGood
+one-result-sequence-xor-good κs a r r′ e e′ p q = p ∙ sym q
+
+pub one-result-sequence-header-of : OneSequenceHeaderOf
+one-result-sequence-header-of κs a r r′ e e′ p q = p ∙ sym q
+
+pub one-result-sequence-command-at : OneSequenceCommandAt
+one-result-sequence-command-at κs a r r′ e e′ p q = p ∙ sym q
+
+pub one-result-sequence-raster-at : OneSequenceRasterAt
+one-result-sequence-raster-at κs a r r′ e e′ p q = p ∙ sym q
+
+pub one-result-sequence-exposures-at : OneSequenceExposuresAt
+one-result-sequence-exposures-at κs a r r′ e e′ p q = p ∙ sym q
+
+pub one-result-sequence-step-at : OneSequenceStepAt
+one-result-sequence-step-at κs a r r′ e e′ p q = p ∙ sym q
+
+pub one-result-sequence-flags-good : OneSequenceFlagsGood
+one-result-sequence-flags-good κs a r r′ e e′ p q = p ∙ sym q
+
+pub one-result-sequence-list-test : OneSequenceListTest
+one-result-sequence-list-test κs a r r′ e e′ p q = p ∙ sym q
+
+pub one-result-sequence-past : OneSequencePast
+one-result-sequence-past κs a r r′ e e′ p q = p ∙ sym q
+
+pub one-result-sequence-target-good : OneSequenceTargetGood
+one-result-sequence-target-good κs a r r′ e e′ p q = p ∙ sym q
+
+-- ── runner
+pub one-result-runner-judge : OneRunnerJudge
+one-result-runner-judge κs a r r′ e e′ p q = p ∙ sym q
+
+pub one-result-runner-Runner-step : OneRunnerRunnerStep
+one-result-runner-Runner-step κs a r r′ e e′ p q = p ∙ sym q
+
+-- ── survey
+pub one-result-survey-check : OneSurveyCheck
+one-result-survey-check κs a r r′ e e′ p q = p ∙ sym q
+
+-- ── unit
+pub one-result-unit-Unit-power-on : OneUnitUnitPowerOn
+one-result-unit-Unit-power-on κs a r r′ e e′ p q = p ∙ sym q
+
+pub one-result-unit-Unit-out-of-range : OneUnitUnitOutOfRange
+one-result-unit-Unit-out-of-range κs a r r′ e e′ p q = p ∙ sym q
+
+pub one-result-unit-kind-of : OneUnitKindOf
+one-result-unit-kind-of κs a r r′ e e′ p q = p ∙ sym q
+
+pub one-result-unit-Unit-packet : OneUnitUnitPacket
+one-result-unit-Unit-packet κs a r r′ e e′ p q = λ i. ((p .0 ∙ sym (q .0)) i, (p .1 .0 ∙ sym (q .1 .0)) i, (p .1 .1 .0 ∙ sym (q .1 .1 .0)) i, (p .1 .1 .1 ∙ sym (q .1 .1 .1)) i)
+
+pub one-result-unit-window-code : OneUnitWindowCode
+one-result-unit-window-code κs a r r′ e e′ p q = p ∙ sym q
+
+pub one-result-unit-window : OneUnitWindow
+one-result-unit-window κs a r r′ e e′ p q = p ∙ sym q
+
+pub one-result-unit-Unit-step : OneUnitUnitStep
+one-result-unit-Unit-step κs a r r′ e e′ p q = p ∙ sym q
+
+-- ── line
+pub one-result-line-put : OneLinePut
+one-result-line-put κs a r r′ e e′ p q = λ i. ((p .place ∙ sym (q .place)) i, (p .bytes ∙ sym (q .bytes)) i)
+
+pub one-result-line-put-word : OneLinePutWord
+one-result-line-put-word κs a r r′ e e′ p q = λ i. ((p .place ∙ sym (q .place)) i, (p .bytes ∙ sym (q .bytes)) i)
+
+pub one-result-line-put-number : OneLinePutNumber
+one-result-line-put-number κs a r r′ e e′ p q = λ i. ((p .place ∙ sym (q .place)) i, (p .bytes ∙ sym (q .bytes)) i)
+
+pub one-result-line-put-blank-number : OneLinePutBlankNumber
+one-result-line-put-blank-number κs a r r′ e e′ p q = λ i. ((p .place ∙ sym (q .place)) i, (p .bytes ∙ sym (q .bytes)) i)
+
+pub one-result-line-put-numbers : OneLinePutNumbers
+one-result-line-put-numbers κs a r r′ e e′ p q = λ i. ((p .place ∙ sym (q .place)) i, (p .bytes ∙ sym (q .bytes)) i)
+
+pub one-result-line-put-octet : OneLinePutOctet
+one-result-line-put-octet κs a r r′ e e′ p q = λ i. ((p .place ∙ sym (q .place)) i, (p .bytes ∙ sym (q .bytes)) i)
+
+pub one-result-line-put-octets : OneLinePutOctets
+one-result-line-put-octets κs a r r′ e e′ p q = λ i. ((p .place ∙ sym (q .place)) i, (p .bytes ∙ sym (q .bytes)) i)
+
+pub one-result-line-put-answer : OneLinePutAnswer
+one-result-line-put-answer κs a r r′ e e′ p q = λ i. ((p .place ∙ sym (q .place)) i, (p .bytes ∙ sym (q .bytes)) i)
+
+pub one-result-line-put-block : OneLinePutBlock
+one-result-line-put-block κs a r r′ e e′ p q = λ i. ((p .place ∙ sym (q .place)) i, (p .bytes ∙ sym (q .bytes)) i)
+
+pub one-result-line-put-event : OneLinePutEvent
+one-result-line-put-event κs a r r′ e e′ p q = λ i. ((p .place ∙ sym (q .place)) i, (p .bytes ∙ sym (q .bytes)) i)
+
+pub one-result-line-put-bad : OneLinePutBad
+one-result-line-put-bad κs a r r′ e e′ p q = λ i. ((p .place ∙ sym (q .place)) i, (p .bytes ∙ sym (q .bytes)) i)
+
+pub one-result-line-is-hex : OneLineIsHex
+one-result-line-is-hex κs a r r′ e e′ p q = p ∙ sym q
+
+pub one-result-line-figures : OneLineFigures
+one-result-line-figures κs a r r′ e e′ p q = p ∙ sym q
+
+pub one-result-line-number : OneLineNumber
+one-result-line-number κs a r r′ e e′ p q = p ∙ sym q
+
+pub one-result-line-line-end : OneLineLineEnd
+one-result-line-line-end κs a r r′ e e′ p q = p ∙ sym q
+
+pub one-result-line-is-blank : OneLineIsBlank
+one-result-line-is-blank κs a r r′ e e′ p q = p ∙ sym q
+
+pub one-result-line-next-word : OneLineNextWord
+one-result-line-next-word κs a r r′ e e′ p q = p ∙ sym q
+
+pub one-result-line-begins : OneLineBegins
+one-result-line-begins κs a r r′ e e′ p q = p ∙ sym q
+
+pub one-result-line-read-line : OneLineReadLine
+one-result-line-read-line κs a r r′ e e′ p q = λ i. ((p .0 ∙ sym (q .0)) i, (p .1 ∙ sym (q .1)) i)
+
+-- ── keel
+pub one-result-keel-keel-power-on : OneKeelKeelPowerOn
+one-result-keel-keel-power-on κs a r r′ e e′ p q = λ i. ((p .0 ∙ sym (q .0)) i, (p .1 ∙ sym (q .1)) i)
+
+pub one-result-keel-keel-packet : OneKeelKeelPacket
+one-result-keel-keel-packet κs a r r′ e e′ p q =
+    λ i. ((p .0 ∙ sym (q .0)) i, (p .1 .0 ∙ sym (q .1 .0)) i, (p .1 .1 .0 ∙ sym (q .1 .1 .0)) i, (p .1 .1 .1 .0 ∙ sym (q .1 .1 .1 .0)) i, (p .1 .1 .1 .1 ∙ sym (q .1 .1 .1 .1)) i)
+
+pub one-result-keel-keel-step : OneKeelKeelStep
+one-result-keel-keel-step κs a r r′ e e′ p q = λ i. ((p .0 ∙ sym (q .0)) i, (p .1 ∙ sym (q .1)) i)
+
+pub one-result-keel-keel-check : OneKeelKeelCheck
+one-result-keel-keel-check κs a r r′ e e′ p q = λ i. ((p .0 ∙ sym (q .0)) i, (p .1 ∙ sym (q .1)) i)

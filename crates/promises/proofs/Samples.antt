@@ -1,0 +1,135 @@
+-- The samples of document 01 that it marks with *, as rows of one list: what is asked, computed to numbers, and the right numbers. One theorem:
+-- every row is right. Assumes nothing.
+use Prim.Native.Nat.{ℕ, _-_}
+use mathlib.Core.Path.{_≡_, refl}
+use mathlib.Core.Bool.{Bool, true, false, cond, _&&_}
+use mathlib.Core.List.{List, [], _∷_, _++_}
+use lib.Dec.{eqb}
+use lib.ListN.{length, replicate}
+use Rattle.octets.specs.Bytes.{xorOn}
+use Rattle.memory.specs.Memory.{listOf, tablesWrong, rangeOf, rangeAt}
+use Rattle.sequence.specs.Text.{limit, lengthGood, xorGood, headerRows, headerOf, sizeOf, decoded, noneThere, commandAt, sizeAt}
+use Rattle.sequence.specs.Starts.{starts, startsOf, among, exposesBetween, firstExposure, targetGood}
+use Rattle.sequence.specs.Raster.{rasterAt, flagsGood}
+use Rattle.sequence.specs.LineList.{listGood, listTest, isGood}
+use Rattle.sequence.specs.Env.{envOf}
+use Rattle.runner.specs.declared.Runner.{Runner}
+use Rattle.runner.specs.Judge.{pathRows, rasterRows, runRows, exposeRows, loopRows, closeRows, judged, judge}
+use Rattle.runner.specs.Step.{aborted, entered, begun, advances, exposed, looped, delayed, called, ended, act, stepIn, stepOf}
+use Rattle.survey.specs.Walk.{between, walked, walk, checkOne}
+use Rattle.survey.specs.Chain.{Told, onward, follow, chainOf, checkRows, checkOf}
+use Rattle.survey.specs.Report.{EndingShown, endingShown}
+use Rattle.unit.specs.declared.Log.{Log}
+use Rattle.unit.specs.declared.Answer.{Answer}
+use Rattle.unit.specs.State.{powerOn, runsWrong, rangeTests, outOfRange}
+use Rattle.unit.specs.Packet.{kindOf, ownRows, lentWrong, packetRows, codeOf}
+use Rattle.unit.specs.Answer.{obeyedUnit, reply, refusedUnit, unitAfter, replyOf, answerOf}
+use Rattle.promises.specs.Runs.{positionsSeen, sightsOf}
+use Rattle.promises.specs.Positions.{chainPositions}
+
+-- ── what is asked
+-- tables that begin with these bytes, 0 in the rest
+abbrev table : ℕ → List ℕ → List ℕ
+table size bytes = bytes ++ replicate (size - length bytes) 0
+
+abbrev seqs : List ℕ → List ℕ
+seqs bytes = table 16384 bytes
+
+abbrev lists : List ℕ → List ℕ
+lists bytes = table 7872 bytes
+
+-- the check of sequence 0: how it ends (1 ends, 3 fault) with code, sequence and place; steps, exposures, and the listed sequences
+abbrev endNumbers : EndingShown → List ℕ → List ℕ
+endNumbers e rest = e .number ∷ e .code ∷ e .sequence ∷ e .place ∷ rest
+
+abbrev toldNumbers : Told → List ℕ
+toldNumbers t = endNumbers (endingShown (t .ending)) (t .steps ∷ t .exposures ∷ t .names)
+
+abbrev checked : List ℕ → List ℕ → List ℕ
+checked sequence list = toldNumbers (checkOf (seqs sequence) (lists list) 0)
+
+-- where the check says that sequence 0 exposes, and where the interpreter's first steps do, from the start of that sequence
+abbrev planned : List ℕ → List ℕ → List ℕ
+planned sequence list = chainPositions (envOf (lists list)) (seqs sequence) (0 ∷ [])
+
+abbrev started : Runner
+started =
+    record { sequence = 0; place = 0; running = true; entering = true; raster = 255; count = 0; passes = 0; repeats = 0; rounds = 0; mirror = 0 }
+
+abbrev seenIn : ℕ → List ℕ → List ℕ → List ℕ
+seenIn steps sequence list = positionsSeen (sightsOf (envOf (lists list)) (seqs sequence) steps started)
+
+-- whether line list 0 is good: 1 or 0
+abbrev good : List ℕ → List ℕ
+good list = cond (isGood (listTest (listOf (lists list) 0))) 1 0 ∷ []
+
+-- a packet to the unit at power-on: its code, the length of its answer, and the log
+abbrev logNumbers : Log → List ℕ
+logNumbers l = l .bc1 ∷ l .bc2 ∷ l .bc3 ∷ l .size ∷ []
+
+abbrev answerNumbers : Answer → List ℕ
+answerNumbers a = a .code ∷ a .length ∷ logNumbers (a .unit .ledger .log)
+
+abbrev sent : List ℕ → List ℕ
+sent packet = answerNumbers (answerOf powerOn 0 (seqs []) (lists []) (seqs []) packet)
+
+-- ── the rows
+record Row : Type 0 where
+  asked : List ℕ
+  right : List ℕ
+
+abbrev row : List ℕ → List ℕ → Row
+row asked right = record { asked = asked; right = right }
+
+-- line list 0, with this many windows
+abbrev lineList : ℕ → List ℕ
+lineList windows =
+    0x14 ∷ 0x00 ∷ windows ∷ 0x6E ∷ 0x08 ∷ 0x00 ∷ 0x00 ∷ 0x32 ∷ 0x04 ∷ 0x00 ∷ 0x00 ∷ 0x00 ∷ 0x02 ∷ 0x00 ∷ 0x00 ∷ 0x03 ∷ 0x00 ∷ 0x64 ∷ 0x00 ∷ 0x20 ∷ []
+
+-- the raster sequence with this initial position, and the checksum that goes with it
+abbrev raster : ℕ → ℕ → ℕ → List ℕ
+raster high low sum =
+    0x22 ∷ 0x00 ∷ 0x02 ∷ 0x01
+    ∷ 0x90 ∷ 0x00 ∷ 0x07 ∷ high ∷ low ∷ 0x00 ∷ 0x03 ∷ 0x00 ∷ 0x00 ∷ 0x00 ∷ 0x00 ∷ 0x02 ∷ 0x01 ∷ 0x01 ∷ 0x00 ∷ 0xF0 ∷ 0x02 ∷ 0x00 ∷ 0x03 ∷ 0x00 ∷ 0x0A ∷ 0x00 ∷ 0x00
+    ∷ 0x91 ∷ 0x00 ∷ 0x64
+    ∷ 0x92 ∷ 0x1B
+    ∷ 0x94
+    ∷ sum ∷ []
+
+abbrev rows : List Row
+rows =
+    -- "`06 00 01 01 94 92` passes: 2 steps, 0 exposures."
+    row (checked (0x06 ∷ 0x00 ∷ 0x01 ∷ 0x01 ∷ 0x94 ∷ 0x92 ∷ []) []) (1 ∷ 0 ∷ 0 ∷ 0 ∷ 2 ∷ 0 ∷ 0 ∷ [])
+    -- "Last byte 93: code 2."
+    ∷ row (checked (0x06 ∷ 0x00 ∷ 0x01 ∷ 0x01 ∷ 0x94 ∷ 0x93 ∷ []) []) (3 ∷ 2 ∷ 0 ∷ 0 ∷ 0 ∷ 0 ∷ 0 ∷ [])
+    -- "Line list 0: .. good. Byte 2 zero: bad."
+    ∷ row (good (lineList 1)) (1 ∷ [])
+    ∷ row (good (lineList 0)) (0 ∷ [])
+    -- "With it, [the raster sequence]: 6 exposures at 100, 110, 120, 100, 110, 120; 16 steps."
+    ∷ row (checked (raster 0x00 0x64 0xC0) (lineList 1)) (1 ∷ 0 ∷ 0 ∷ 0 ∷ 16 ∷ 6 ∷ 0 ∷ [])
+    ∷ row (planned (raster 0x00 0x64 0xC0) (lineList 1)) (100 ∷ 110 ∷ 120 ∷ 100 ∷ 110 ∷ 120 ∷ [])
+    ∷ row (seenIn 16 (raster 0x00 0x64 0xC0) (lineList 1)) (100 ∷ 110 ∷ 120 ∷ 100 ∷ 110 ∷ 120 ∷ [])
+    -- "Initial 2380, 3 loops, step 10 fits; 2381 gives 14."
+    ∷ row (checked (raster 0x09 0x4C 0xE1) (lineList 1)) (1 ∷ 0 ∷ 0 ∷ 0 ∷ 16 ∷ 6 ∷ 0 ∷ [])
+    ∷ row (checked (raster 0x09 0x4D 0xE0) (lineList 1)) (3 ∷ 14 ∷ 0 ∷ 4 ∷ 0 ∷ 0 ∷ 0 ∷ [])
+    -- "Count 128 at 0x073F80 fits; at 0x073F81, code 7."
+    ∷ row (sent (0x07 ∷ 0x07 ∷ 0x3F ∷ 0x80 ∷ 0x00 ∷ 0x00 ∷ 0x80 ∷ [])) (0 ∷ 128 ∷ 0x07 ∷ 0x07 ∷ 0x3F ∷ 0x07 ∷ [])
+    ∷ row (sent (0x07 ∷ 0x07 ∷ 0x3F ∷ 0x81 ∷ 0x00 ∷ 0x00 ∷ 0x80 ∷ [])) (7 ∷ 0 ∷ 0x07 ∷ 0x07 ∷ 0x3F ∷ 0x07 ∷ [])
+    -- "Uplink of 100 bytes to 0x060000 by E5: code 6, log E5 06 00 69."
+    ∷ row (sent (0xE5 ∷ 0x06 ∷ 0x00 ∷ 0x00 ∷ 0x64 ∷ replicate 100 0xAA)) (6 ∷ 0 ∷ 0xE5 ∷ 0x06 ∷ 0x00 ∷ 0x69 ∷ [])
+    ∷ []
+
+-- ── the test
+abbrev same : List ℕ → List ℕ → Bool
+same [] [] = true
+same [] (n ∷ ns) = false
+same (m ∷ ms) [] = false
+same (m ∷ ms) (n ∷ ns) = eqb m n && same ms ns
+
+abbrev allRight : List Row → Bool
+allRight [] = true
+allRight (r ∷ rs) = same (r .asked) (r .right) && allRight rs
+
+pub samples-right : allRight rows ≡ true
+unfolding xorOn tablesWrong rangeOf rangeAt limit lengthGood xorGood headerRows headerOf sizeOf decoded noneThere commandAt sizeAt starts startsOf among exposesBetween firstExposure targetGood rasterAt flagsGood listGood listTest pathRows rasterRows runRows exposeRows loopRows closeRows judged judge aborted entered begun advances exposed looped delayed called ended act stepIn stepOf between walked walk checkOne onward follow chainOf checkRows checkOf powerOn runsWrong rangeTests outOfRange kindOf ownRows lentWrong packetRows codeOf obeyedUnit reply refusedUnit unitAfter replyOf answerOf sightsOf chainPositions
+samples-right = refl

@@ -1,0 +1,247 @@
+-- How much a contract says. For each public function the contract leaves one possible result and one possible content of every lent slice, for
+-- all inputs and refusals: two results that it allows coincide.
+-- The statements are over the contracts themselves: `Learnt` is what a caller learns of a function from its `ensures`, as Rattle reads it from
+-- the source. proofs/OneAnswer proves each under the name of its function.
+use Prim.Native.Nat.{ℕ}
+use mathlib.Core.Path.{_≡_}
+use mathlib.Core.Bool.{Bool}
+use mathlib.Core.List.{List}
+use contract.Lifetimes.{Lfts}
+use denote.Ref.{now}
+use denote.Triple.Clauses.{AtExit}
+use borrow.Fn.Kinds.{PK, RK, Out, Dens, resT, endedOf}
+use Rattle.octets.proofs as octets
+use Rattle.memory.proofs as memory
+use Rattle.memory.specs.declared.Placed.{Placed}
+use Rattle.memory.specs.declared.Addressed.{Addressed}
+use Rattle.memory.specs.declared.Range.{Range}
+use Rattle.sequence.proofs as sequence
+use Rattle.sequence.specs.declared.Header.{Header}
+use Rattle.sequence.specs.declared.Command.{Command}
+use Rattle.sequence.specs.declared.RasterWords.{RasterWords}
+use Rattle.sequence.specs.declared.ListTest.{ListTest}
+use Rattle.runner.proofs as runner
+use Rattle.runner.specs.declared.Act.{Act}
+use Rattle.runner.specs.declared.Stepped.{Stepped}
+use Rattle.survey.proofs as survey
+use Rattle.survey.specs.declared.Report.{Report}
+use Rattle.unit.proofs as unit
+use Rattle.line.proofs as line
+use Rattle.line.specs.declared.Line.{Line}
+use Rattle.line.specs.declared.Figure.{Figure}
+use Rattle.line.specs.declared.Numeral.{Numeral}
+use Rattle.line.specs.declared.Span.{Span}
+use Rattle.keel.proofs as keel
+use Rattle.unit.specs.declared.Unit.{Unit as ControlUnit}
+use Rattle.unit.specs.declared.Kind.{Kind}
+use Rattle.unit.specs.declared.Answer.{Answer}
+use Rattle.unit.specs.declared.UnitStep.{UnitStep}
+
+-- A function with parameters ps and a result r is called with any arguments a. Its contract allows the result r₁ with the parameters as e₁ at
+-- exit, and r₂ with e₂. Then what is seen of the two is the same: of a number, a bool, a struct or an enum all of it, of a part handed back
+-- its bytes (`now r`), and of each slice lent for writing its bytes at exit (`now` of its place in e). A slice lent for reading is the same at
+-- exit by its type.
+abbrev pub One : (A : Type 0) {n : ℕ} (ps : List (PK n)) (r : RK n) → Out n ps r → ((κs : Lfts n) → resT r κs .Denot → AtExit (endedOf n ps r) κs → A) → Type 0
+One A {n} ps r allows seen =
+    (κs : Lfts n) (a : Dens κs ps) (r₁ r₂ : resT r κs .Denot) (e₁ e₂ : AtExit (endedOf n ps r) κs)
+    → allows κs a r₁ e₁ → allows κs a r₂ e₂ → seen κs r₁ e₁ ≡ seen κs r₂ e₂
+
+-- ── octets
+abbrev pub OneOctetsByte : Type 0
+OneOctetsByte = One ℕ octets.byte.Kinds.ps octets.byte.Kinds.r octets.byte.Reads.Learnt (λ κs r e. r)
+
+abbrev pub OneOctetsWord : Type 0
+OneOctetsWord = One ℕ octets.word.Kinds.ps octets.word.Kinds.r octets.word.Reads.Learnt (λ κs r e. r)
+
+abbrev pub OneOctetsTriple : Type 0
+OneOctetsTriple = One ℕ octets.triple.Kinds.ps octets.triple.Kinds.r octets.triple.Reads.Learnt (λ κs r e. r)
+
+abbrev pub OneOctetsPart : Type 0
+OneOctetsPart = One (List ℕ) octets.part.Kinds.ps octets.part.Kinds.r octets.part.Reads.Learnt (λ κs r e. now r)
+
+abbrev pub OneOctetsXorOn : Type 0
+OneOctetsXorOn = One ℕ octets.xor_on.Kinds.ps octets.xor_on.Kinds.r octets.xor_on.Reads.Learnt (λ κs r e. r)
+
+abbrev pub OneOctetsRefuse : Type 0
+OneOctetsRefuse = One ℕ octets.refuse.Kinds.ps octets.refuse.Kinds.r octets.refuse.Reads.Learnt (λ κs r e. r)
+
+-- ── memory
+abbrev pub OneMemoryPlaceOf : Type 0
+OneMemoryPlaceOf = One Placed memory.Place.of.Kinds.ps memory.Place.of.Kinds.r memory.Place.of.Reads.Learnt (λ κs r e. r)
+
+abbrev pub OneMemoryPlaceNumber : Type 0
+OneMemoryPlaceNumber = One ℕ memory.Place.number.Kinds.ps memory.Place.number.Kinds.r memory.Place.number.Reads.Learnt (λ κs r e. r)
+
+abbrev pub OneMemoryAddressOf : Type 0
+OneMemoryAddressOf = One Addressed memory.Address.of.Kinds.ps memory.Address.of.Kinds.r memory.Address.of.Reads.Learnt (λ κs r e. r)
+
+abbrev pub OneMemoryAddressRange : Type 0
+OneMemoryAddressRange = One Range memory.Address.range.Kinds.ps memory.Address.range.Kinds.r memory.Address.range.Reads.Learnt (λ κs r e. r)
+
+abbrev pub OneMemoryRangeAt : Type 0
+OneMemoryRangeAt = One Range memory.range_at.Kinds.ps memory.range_at.Kinds.r memory.range_at.Reads.Learnt (λ κs r e. r)
+
+abbrev pub OneMemoryTablesWrong : Type 0
+OneMemoryTablesWrong = One Bool memory.tables_wrong.Kinds.ps memory.tables_wrong.Kinds.r memory.tables_wrong.Reads.Learnt (λ κs r e. r)
+
+abbrev pub OneMemoryWindowCode : Type 0
+OneMemoryWindowCode = One ℕ memory.window_code.Kinds.ps memory.window_code.Kinds.r memory.window_code.Reads.Learnt (λ κs r e. r)
+
+abbrev pub OneMemoryWindow : Type 0
+OneMemoryWindow = One (List ℕ) memory.window.Kinds.ps memory.window.Kinds.r memory.window.Reads.Learnt (λ κs r e. now r)
+
+abbrev pub OneMemoryWrite : Type 0
+OneMemoryWrite = One (List ℕ) memory.write.Kinds.ps memory.write.Kinds.r memory.write.Reads.Learnt (λ κs r e. now (e .0))
+
+abbrev pub OneMemoryWriteRange : Type 0
+OneMemoryWriteRange = One (List ℕ × List ℕ) memory.write_range.Kinds.ps memory.write_range.Kinds.r memory.write_range.Reads.Learnt (λ κs r e. (now (e .0), now (e .1 .0)))
+
+abbrev pub OneMemoryEntry : Type 0
+OneMemoryEntry = One (List ℕ) memory.entry.Kinds.ps memory.entry.Kinds.r memory.entry.Reads.Learnt (λ κs r e. now r)
+
+abbrev pub OneMemoryList : Type 0
+OneMemoryList = One (List ℕ) memory.list.Kinds.ps memory.list.Kinds.r memory.list.Reads.Learnt (λ κs r e. now r)
+
+-- ── sequence
+abbrev pub OneSequenceSizeOf : Type 0
+OneSequenceSizeOf = One ℕ sequence.size_of.Kinds.ps sequence.size_of.Kinds.r sequence.size_of.Reads.Learnt (λ κs r e. r)
+
+abbrev pub OneSequenceLimit : Type 0
+OneSequenceLimit = One ℕ sequence.limit.Kinds.ps sequence.limit.Kinds.r sequence.limit.Reads.Learnt (λ κs r e. r)
+
+abbrev pub OneSequenceLengthGood : Type 0
+OneSequenceLengthGood = One Bool sequence.length_good.Kinds.ps sequence.length_good.Kinds.r sequence.length_good.Reads.Learnt (λ κs r e. r)
+
+abbrev pub OneSequenceXorGood : Type 0
+OneSequenceXorGood = One Bool sequence.xor_good.Kinds.ps sequence.xor_good.Kinds.r sequence.xor_good.Reads.Learnt (λ κs r e. r)
+
+abbrev pub OneSequenceHeaderOf : Type 0
+OneSequenceHeaderOf = One Header sequence.header_of.Kinds.ps sequence.header_of.Kinds.r sequence.header_of.Reads.Learnt (λ κs r e. r)
+
+abbrev pub OneSequenceCommandAt : Type 0
+OneSequenceCommandAt = One Command sequence.command_at.Kinds.ps sequence.command_at.Kinds.r sequence.command_at.Reads.Learnt (λ κs r e. r)
+
+abbrev pub OneSequenceRasterAt : Type 0
+OneSequenceRasterAt = One RasterWords sequence.raster_at.Kinds.ps sequence.raster_at.Kinds.r sequence.raster_at.Reads.Learnt (λ κs r e. r)
+
+abbrev pub OneSequenceExposuresAt : Type 0
+OneSequenceExposuresAt = One ℕ sequence.exposures_at.Kinds.ps sequence.exposures_at.Kinds.r sequence.exposures_at.Reads.Learnt (λ κs r e. r)
+
+abbrev pub OneSequenceStepAt : Type 0
+OneSequenceStepAt = One ℕ sequence.step_at.Kinds.ps sequence.step_at.Kinds.r sequence.step_at.Reads.Learnt (λ κs r e. r)
+
+abbrev pub OneSequenceFlagsGood : Type 0
+OneSequenceFlagsGood = One Bool sequence.flags_good.Kinds.ps sequence.flags_good.Kinds.r sequence.flags_good.Reads.Learnt (λ κs r e. r)
+
+abbrev pub OneSequenceListTest : Type 0
+OneSequenceListTest = One ListTest sequence.list_test.Kinds.ps sequence.list_test.Kinds.r sequence.list_test.Reads.Learnt (λ κs r e. r)
+
+abbrev pub OneSequencePast : Type 0
+OneSequencePast = One ℕ sequence.past.Kinds.ps sequence.past.Kinds.r sequence.past.Reads.Learnt (λ κs r e. r)
+
+abbrev pub OneSequenceTargetGood : Type 0
+OneSequenceTargetGood = One Bool sequence.target_good.Kinds.ps sequence.target_good.Kinds.r sequence.target_good.Reads.Learnt (λ κs r e. r)
+
+-- ── runner
+abbrev pub OneRunnerJudge : Type 0
+OneRunnerJudge = One Act runner.judge.Kinds.ps runner.judge.Kinds.r runner.judge.Reads.Learnt (λ κs r e. r)
+
+abbrev pub OneRunnerRunnerStep : Type 0
+OneRunnerRunnerStep = One Stepped runner.Runner.step.Kinds.ps runner.Runner.step.Kinds.r runner.Runner.step.Reads.Learnt (λ κs r e. r)
+
+-- ── survey
+abbrev pub OneSurveyCheck : Type 0
+OneSurveyCheck = One Report survey.check.Kinds.ps survey.check.Kinds.r survey.check.Reads.Learnt (λ κs r e. r)
+
+-- ── unit
+abbrev pub OneUnitUnitPowerOn : Type 0
+OneUnitUnitPowerOn = One ControlUnit unit.Unit.power_on.Kinds.ps unit.Unit.power_on.Kinds.r unit.Unit.power_on.Reads.Learnt (λ κs r e. r)
+
+abbrev pub OneUnitUnitOutOfRange : Type 0
+OneUnitUnitOutOfRange = One Bool unit.Unit.out_of_range.Kinds.ps unit.Unit.out_of_range.Kinds.r unit.Unit.out_of_range.Reads.Learnt (λ κs r e. r)
+
+abbrev pub OneUnitKindOf : Type 0
+OneUnitKindOf = One Kind unit.kind_of.Kinds.ps unit.kind_of.Kinds.r unit.kind_of.Reads.Learnt (λ κs r e. r)
+
+abbrev pub OneUnitUnitPacket : Type 0
+OneUnitUnitPacket = One (Answer × List ℕ × List ℕ × List ℕ) unit.Unit.packet.Kinds.ps unit.Unit.packet.Kinds.r unit.Unit.packet.Reads.Learnt (λ κs r e. (r, now (e .1 .0), now (e .1 .1 .0), now (e .1 .1 .1 .0)))
+
+abbrev pub OneUnitWindowCode : Type 0
+OneUnitWindowCode = One ℕ unit.window_code.Kinds.ps unit.window_code.Kinds.r unit.window_code.Reads.Learnt (λ κs r e. r)
+
+abbrev pub OneUnitWindow : Type 0
+OneUnitWindow = One (List ℕ) unit.window.Kinds.ps unit.window.Kinds.r unit.window.Reads.Learnt (λ κs r e. now r)
+
+abbrev pub OneUnitUnitStep : Type 0
+OneUnitUnitStep = One UnitStep unit.Unit.step.Kinds.ps unit.Unit.step.Kinds.r unit.Unit.step.Reads.Learnt (λ κs r e. r)
+
+-- ── line
+abbrev pub OneLinePut : Type 0
+OneLinePut = One (ℕ × List ℕ) line.put.Kinds.ps line.put.Kinds.r line.put.Reads.Learnt (λ κs r e. (r, now (e .0)))
+
+abbrev pub OneLinePutWord : Type 0
+OneLinePutWord = One (ℕ × List ℕ) line.put_word.Kinds.ps line.put_word.Kinds.r line.put_word.Reads.Learnt (λ κs r e. (r, now (e .0)))
+
+abbrev pub OneLinePutNumber : Type 0
+OneLinePutNumber = One (ℕ × List ℕ) line.put_number.Kinds.ps line.put_number.Kinds.r line.put_number.Reads.Learnt (λ κs r e. (r, now (e .0)))
+
+abbrev pub OneLinePutBlankNumber : Type 0
+OneLinePutBlankNumber = One (ℕ × List ℕ) line.put_blank_number.Kinds.ps line.put_blank_number.Kinds.r line.put_blank_number.Reads.Learnt (λ κs r e. (r, now (e .0)))
+
+abbrev pub OneLinePutNumbers : Type 0
+OneLinePutNumbers = One (ℕ × List ℕ) line.put_numbers.Kinds.ps line.put_numbers.Kinds.r line.put_numbers.Reads.Learnt (λ κs r e. (r, now (e .0)))
+
+abbrev pub OneLinePutOctet : Type 0
+OneLinePutOctet = One (ℕ × List ℕ) line.put_octet.Kinds.ps line.put_octet.Kinds.r line.put_octet.Reads.Learnt (λ κs r e. (r, now (e .0)))
+
+abbrev pub OneLinePutOctets : Type 0
+OneLinePutOctets = One (ℕ × List ℕ) line.put_octets.Kinds.ps line.put_octets.Kinds.r line.put_octets.Reads.Learnt (λ κs r e. (r, now (e .0)))
+
+abbrev pub OneLinePutAnswer : Type 0
+OneLinePutAnswer = One (ℕ × List ℕ) line.put_answer.Kinds.ps line.put_answer.Kinds.r line.put_answer.Reads.Learnt (λ κs r e. (r, now (e .0)))
+
+abbrev pub OneLinePutBlock : Type 0
+OneLinePutBlock = One (ℕ × List ℕ) line.put_block.Kinds.ps line.put_block.Kinds.r line.put_block.Reads.Learnt (λ κs r e. (r, now (e .0)))
+
+abbrev pub OneLinePutEvent : Type 0
+OneLinePutEvent = One (ℕ × List ℕ) line.put_event.Kinds.ps line.put_event.Kinds.r line.put_event.Reads.Learnt (λ κs r e. (r, now (e .0)))
+
+abbrev pub OneLinePutBad : Type 0
+OneLinePutBad = One (ℕ × List ℕ) line.put_bad.Kinds.ps line.put_bad.Kinds.r line.put_bad.Reads.Learnt (λ κs r e. (r, now (e .0)))
+
+abbrev pub OneLineIsHex : Type 0
+OneLineIsHex = One Bool line.is_hex.Kinds.ps line.is_hex.Kinds.r line.is_hex.Reads.Learnt (λ κs r e. r)
+
+abbrev pub OneLineFigures : Type 0
+OneLineFigures = One Figure line.figures.Kinds.ps line.figures.Kinds.r line.figures.Reads.Learnt (λ κs r e. r)
+
+abbrev pub OneLineNumber : Type 0
+OneLineNumber = One Numeral line.number.Kinds.ps line.number.Kinds.r line.number.Reads.Learnt (λ κs r e. r)
+
+abbrev pub OneLineLineEnd : Type 0
+OneLineLineEnd = One ℕ line.line_end.Kinds.ps line.line_end.Kinds.r line.line_end.Reads.Learnt (λ κs r e. r)
+
+abbrev pub OneLineIsBlank : Type 0
+OneLineIsBlank = One Bool line.is_blank.Kinds.ps line.is_blank.Kinds.r line.is_blank.Reads.Learnt (λ κs r e. r)
+
+abbrev pub OneLineNextWord : Type 0
+OneLineNextWord = One Span line.next_word.Kinds.ps line.next_word.Kinds.r line.next_word.Reads.Learnt (λ κs r e. r)
+
+abbrev pub OneLineBegins : Type 0
+OneLineBegins = One Bool line.begins.Kinds.ps line.begins.Kinds.r line.begins.Reads.Learnt (λ κs r e. r)
+
+abbrev pub OneLineReadLine : Type 0
+OneLineReadLine = One (Line × List ℕ) line.read_line.Kinds.ps line.read_line.Kinds.r line.read_line.Reads.Learnt (λ κs r e. (r, now (e .1 .0)))
+
+-- ── keel
+abbrev pub OneKeelKeelPowerOn : Type 0
+OneKeelKeelPowerOn = One (ℕ × List ℕ) keel.keel_power_on.Kinds.ps keel.keel_power_on.Kinds.r keel.keel_power_on.Reads.Learnt (λ κs r e. (r, now (e .0)))
+
+abbrev pub OneKeelKeelPacket : Type 0
+OneKeelKeelPacket = One (ℕ × List ℕ × List ℕ × List ℕ × List ℕ) keel.keel_packet.Kinds.ps keel.keel_packet.Kinds.r keel.keel_packet.Reads.Learnt (λ κs r e. (r, now (e .0), now (e .1 .0), now (e .1 .1 .0), now (e .1 .1 .1 .0)))
+
+abbrev pub OneKeelKeelStep : Type 0
+OneKeelKeelStep = One (ℕ × List ℕ) keel.keel_step.Kinds.ps keel.keel_step.Kinds.r keel.keel_step.Reads.Learnt (λ κs r e. (r, now (e .0)))
+
+abbrev pub OneKeelKeelCheck : Type 0
+OneKeelKeelCheck = One (ℕ × List ℕ) keel.keel_check.Kinds.ps keel.keel_check.Kinds.r keel.keel_check.Reads.Learnt (λ κs r e. (r, now (e .1 .1 .1 .0)))
