@@ -195,7 +195,14 @@ fn answer_of(code: u8, length: usize) -> u32
 
 // One packet: the code, and 256 times the length of what was written to the output.
 #[no_mangle]
-pub extern "C" fn keel_packet(state: &mut [u8], seqs: &mut [u8], lists: &mut [u8], out: &mut [u8], time: u32, packet: &[u8]) -> u32
+pub extern "C" fn keel_packet(
+    state: &mut [u8],
+    seqs: &mut [u8],
+    lists: &mut [u8],
+    out: &mut [u8],
+    time: u32,
+    packet: &[u8],
+) -> u32
     ensures { λ r. ⌜ r ≡ packetAnswer (now (state .entry)) time (now (seqs .entry)) (now (lists .entry)) (now (out .entry)) (now (packet .entry)) ⌝ }
     ensures { λ _. ⌜ now (state .exit) ≡ stateAfter (now (state .entry)) (now (seqs .entry)) (now (lists .entry)) (now (out .entry)) (now (packet .entry)) ⌝ }
     ensures { λ _. ⌜ now (seqs .exit) ≡ keptSeqs (now (state .entry)) (now (seqs .entry)) (now (lists .entry)) (now (out .entry)) (now (packet .entry)) ⌝ }
@@ -228,17 +235,72 @@ fn parts_of(count: u16, event: Event) -> Parts
     ensures { λ r. ⌜ (r .number ≡ shownAs count event .number) × (r .first ≡ getD (shownAs count event .values) 0 0) × (r .second ≡ getD (shownAs count event .values) 1 0) × (r .third ≡ getD (shownAs count event .values) 2 0) ⌝ }
 {
     match event {
-        Event::Idle => Parts { number: 0, first: 0, second: 0, third: 0 },
-        Event::Enter(s) => Parts { number: 1, first: s as u16, second: 0, third: 0 },
-        Event::Raster(id, pos, _) => Parts { number: 2, first: id, second: pos, third: 0 },
-        Event::Exp(pos) => Parts { number: 3, first: count, second: pos, third: 0 },
-        Event::Loop(place) => Parts { number: 4, first: place as u16, second: 0, third: 0 },
-        Event::Next => Parts { number: 5, first: 0, second: 0, third: 0 },
-        Event::Done => Parts { number: 6, first: 0, second: 0, third: 0 },
-        Event::Wait(t) => Parts { number: 7, first: t, second: 0, third: 0 },
-        Event::Call(s) => Parts { number: 8, first: s as u16, second: 0, third: 0 },
-        Event::End => Parts { number: 9, first: 0, second: 0, third: 0 },
-        Event::Abort(code, s, place) => Parts { number: 10, first: code as u16, second: s as u16, third: place as u16 },
+        Event::Idle => Parts {
+            number: 0,
+            first: 0,
+            second: 0,
+            third: 0,
+        },
+        Event::Enter(s) => Parts {
+            number: 1,
+            first: s as u16,
+            second: 0,
+            third: 0,
+        },
+        Event::Raster(id, pos, _) => Parts {
+            number: 2,
+            first: id,
+            second: pos,
+            third: 0,
+        },
+        Event::Exp(pos) => Parts {
+            number: 3,
+            first: count,
+            second: pos,
+            third: 0,
+        },
+        Event::Loop(place) => Parts {
+            number: 4,
+            first: place as u16,
+            second: 0,
+            third: 0,
+        },
+        Event::Next => Parts {
+            number: 5,
+            first: 0,
+            second: 0,
+            third: 0,
+        },
+        Event::Done => Parts {
+            number: 6,
+            first: 0,
+            second: 0,
+            third: 0,
+        },
+        Event::Wait(t) => Parts {
+            number: 7,
+            first: t,
+            second: 0,
+            third: 0,
+        },
+        Event::Call(s) => Parts {
+            number: 8,
+            first: s as u16,
+            second: 0,
+            third: 0,
+        },
+        Event::End => Parts {
+            number: 9,
+            first: 0,
+            second: 0,
+            third: 0,
+        },
+        Event::Abort(code, s, place) => Parts {
+            number: 10,
+            first: code as u16,
+            second: s as u16,
+            third: place as u16,
+        },
     }
 }
 
@@ -295,10 +357,30 @@ fn verdict_of(ending: Ending) -> Verdict
     ensures { λ r. ⌜ (r .code ≡ endingShown ending .code) × (r .number ≡ endingShown ending .number) × (r .sequence ≡ endingShown ending .sequence) × (r .place ≡ endingShown ending .place) ⌝ }
 {
     match ending {
-        Ending::Unlisted(code) => Verdict { code, number: 0, sequence: 0, place: 0 },
-        Ending::Finishes => Verdict { code: 0, number: 1, sequence: 0, place: 0 },
-        Ending::Returns => Verdict { code: 0, number: 2, sequence: 0, place: 0 },
-        Ending::Faulty(code, sequence, place) => Verdict { code, number: 3, sequence, place },
+        Ending::Unlisted(code) => Verdict {
+            code,
+            number: 0,
+            sequence: 0,
+            place: 0,
+        },
+        Ending::Finishes => Verdict {
+            code: 0,
+            number: 1,
+            sequence: 0,
+            place: 0,
+        },
+        Ending::Returns => Verdict {
+            code: 0,
+            number: 2,
+            sequence: 0,
+            place: 0,
+        },
+        Ending::Faulty(code, sequence, place) => Verdict {
+            code,
+            number: 3,
+            sequence,
+            place,
+        },
     }
 }
 
