@@ -20,19 +20,17 @@ use Rattle.unit.specs.declared.Kind.the-variants.{Status, Dump, Allow, Mode, Cl
 use Rattle.unit.specs.declared.Answer.{Answer}
 use Rattle.unit.specs.declared.Outcome.the-variants.{Denied, Saw}
 use Rattle.unit.specs.declared.UnitStep.{UnitStep}
+use Rattle.unit.specs.State.{withLedger, withWatch, withRunner}
 use Rattle.unit.specs.Packet.{lentWrong, codeOf}
 use Rattle.unit.specs.Status.{statusOf, two}
 use Rattle.unit.specs.Answer.{reply, commandOf, obeyedSeqs, obeyedLists, unitAfter, replyOf, answerOf, seqsAfter, listsAfter, outAfter}
 use Rattle.unit.specs.Step.{unitStep}
 use Rattle.unit.proofs.Ways.{dump-short}
 use Rattle.keel.specs.State.{unitOf, stateOf, flagsWrong}
+use Rattle.keel.specs.Parts.{ledgerOver, runOver}
 use Rattle.keel.specs.Calls.{stateSized, heldRows, heldCode, packetCode, packetReply, packetAnswer, stateAfter, keptSeqs, keptLists, keptOut, packed, deniedAs, heldStep, stepAnswer, stateStepped}
 use Rattle.keel.specs.Report.{eight, reportBytes}
-use Rattle.keel.proofs.Laws.{held-high}
-
--- ── the state
-pub replaced : (b s : List ℕ) → length s ≤ length b → b ++ drop (length b) s ≡ b
-replaced b s h = ap (λ (x : List ℕ). b ++ x) (drop-of-length-le s {i = length b} h) ∙ append-nil b
+use Rattle.keel.proofs.Laws.{Octets, load-save, ledger-over, run-over, held-high, held-passed, step-keeps, step-idles, refused-unit}
 
 -- ── an answer's length
 reply-short : (k : Kind) (u : Unit) (time : ℕ) (seqs lists p : List ℕ) → length (reply k u time seqs lists p) ≤ 16384
@@ -100,6 +98,16 @@ module _ (s : List ℕ) (time : ℕ) (seqs lists out p : List ℕ) where
       pub moves : (s' : List ℕ) → a .code < 16 → s' ≡ stateOf (a .unit) → Answered (a .code + 256 * a .length) s' seqs' lists' out'
       moves s' h f = answered s' (simp (lt-leb 16 (a .code) h) f)
 
+      -- a refused packet: the ledger alone is written
+      pub counts : (s' : List ℕ) → a .code < 16 → (a .code ≡ 0 → ⊥) → Octets s → s' ≡ ledgerOver (a .unit .ledger) s → Answered (a .code + 256 * a .length) s' seqs' lists' out'
+      unfolding answerOf
+      counts s' h n o f =
+          let v = unitAfter u seqs lists out p in
+          let (sized, flags) = held-passed lent s (sym told ∙ none) in
+          let same : s ≡ stateOf u = sym (ap stateOf read ∙ load-save s sized o flags) in
+          let part = refused-unit u seqs lists out p (λ z. n (ap (λ (x : Answer). x .code) (e .0) ∙ z)) in
+          moves s' h (f ∙ simp (e .0) (ap (ledgerOver (v .ledger)) same ∙ ledger-over (v .ledger) u ∙ ap stateOf part))
+
 -- ── a step
 module _ (s seqs lists : List ℕ) where
   abbrev pub Stepped : ℕ → List ℕ → Type 0
@@ -118,9 +126,27 @@ module _ (s seqs lists : List ℕ) where
       unfolding heldStep stepAnswer stateStepped
       denies code o = simp (← by-size, none, ← read, ← e, o) (refl, refl)
 
-      pub sees : (event : Event) (s' : List ℕ) → r .outcome ≡ Saw event → s' ≡ stateOf (r .unit) → Stepped (packed (shownAs (r .unit .watch .exposures) event)) s'
+      sees : (event : Event) (s' : List ℕ) → r .outcome ≡ Saw event → s' ≡ stateOf (r .unit) → Stepped (packed (shownAs (r .unit .watch .exposures) event)) s'
       unfolding heldStep stepAnswer stateStepped
       sees event s' o f = simp (← by-size, none, ← read, ← e, o, f) (refl, refl)
+
+      module _ (octets : Octets s) (event : Event) (saw : r .outcome ≡ Saw event) where
+        same : s ≡ stateOf u
+        same = let (sized, flags) = held-passed lent s (sym told ∙ none) in sym (ap stateOf read ∙ load-save s sized octets flags)
+
+        -- a step that idles: nothing is written
+        pub idles : u .runner .running ≡ false → Stepped 0 s
+        idles n =
+            let (i, k) = step-idles u seqs lists event n (ap (λ (x : UnitStep). x .outcome) (sym e) ∙ saw) in
+            rw i at (sees event s saw (same ∙ ap stateOf (sym (ap (λ (x : UnitStep). x .unit) e ∙ k))))
+
+        -- another step: the run alone is written
+        pub moves-on : (s' : List ℕ) → s' ≡ runOver (r .unit .watch) (r .unit .runner) s → Stepped (packed (shownAs (r .unit .watch .exposures) event)) s'
+        moves-on s' f =
+            let v = r .unit in
+            let k = step-keeps u seqs lists in
+            let part : withWatch (v .watch) (withRunner (v .runner) u) ≡ v = λ i. record { ledger = (sym (k .0) ∙ ap (λ (x : UnitStep). x .unit .ledger) (sym e)) i; control = (sym (k .1) ∙ ap (λ (x : UnitStep). x .unit .control) (sym e)) i; watch = v .watch; runner = v .runner } in
+            sees event s' saw (f ∙ ap (runOver (v .watch) (v .runner)) same ∙ run-over (v .watch) (v .runner) u ∙ ap stateOf part)
 
 -- ── a report
 -- a part written after what is written already

@@ -1,3 +1,4 @@
 pub mod State
+pub mod Parts
 pub mod Calls
 pub mod Report

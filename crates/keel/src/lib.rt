@@ -8,6 +8,7 @@ ghost use Rattle.runner.specs.Events.{shownAs};
 ghost use Rattle.survey.specs.Chain.{Told};
 ghost use Rattle.survey.specs.Report.{endingShown, reportOf};
 ghost use Rattle.keel.specs.State.{flag, unitOf, stateOf, flagsWrong};
+ghost use Rattle.keel.specs.Parts.{controlOver, ledgerOver, runOver};
 ghost use Rattle.keel.specs.Calls.{heldCode, powerCode, poweredOn, packetAnswer, stateAfter, keptSeqs, keptLists, keptOut, packed, deniedAs, stepAnswer, stateStepped};
 ghost use Rattle.keel.specs.Report.{eight, reportBytes, checkAnswer, reportAfter};
 use runner::Event;
@@ -92,46 +93,78 @@ fn unit_of(state: &[u8]) -> Unit
     }
 }
 
+// Writes what commands set over the bytes of a state.
+fn save_control(control: Control, state: &mut [u8])
+    ensures { λ _. ⌜ now (state .exit) ≡ controlOver control (now (state .entry)) ⌝ }
+{
+    let first = [
+        control.mode,
+        flag(control.allowed),
+        (control.requests / 256 % 256) as u8,
+        (control.requests % 256) as u8,
+    ];
+    let selection = [control.selection];
+    memory::write(state, 0, &first);
+    memory::write(state, 15, &selection);
+}
+
+// Writes the counts, the failure and the log over the bytes of a state.
+fn save_ledger(ledger: Ledger, state: &mut [u8])
+    ensures { λ _. ⌜ now (state .exit) ≡ ledgerOver ledger (now (state .entry)) ⌝ }
+{
+    let counts = [
+        (ledger.received / 256 % 256) as u8,
+        (ledger.received % 256) as u8,
+        (ledger.failed / 256 % 256) as u8,
+        (ledger.failed % 256) as u8,
+        ledger.code,
+        ledger.number,
+    ];
+    let log = [
+        ledger.log.bc1,
+        ledger.log.bc2,
+        ledger.log.bc3,
+        ledger.log.size,
+    ];
+    memory::write(state, 4, &counts);
+    memory::write(state, 11, &log);
+}
+
+// Writes what a run moves over the bytes of a state.
+fn save_run(watch: Watch, runner: Runner, state: &mut [u8])
+    ensures { λ _. ⌜ now (state .exit) ≡ runOver watch runner (now (state .entry)) ⌝ }
+{
+    let abort = [watch.abort];
+    let run = [
+        runner.sequence,
+        runner.place,
+        watch.list,
+        (watch.exposures / 256 % 256) as u8,
+        (watch.exposures % 256) as u8,
+        (runner.mirror / 256 % 256) as u8,
+        (runner.mirror % 256) as u8,
+        flag(runner.running),
+        flag(runner.entering),
+        runner.raster,
+        runner.count,
+        (runner.passes / 256 % 256) as u8,
+        (runner.passes % 256) as u8,
+        (runner.repeats / 256 % 256) as u8,
+        (runner.repeats % 256) as u8,
+        runner.rounds,
+    ];
+    memory::write(state, 10, &abort);
+    memory::write(state, 16, &run);
+}
+
 // Writes the unit over the bytes of a state.
 fn save(unit: Unit, state: &mut [u8])
     requires { ⌜ length (now state) ≡ 32 ⌝ }
     ensures { λ _. ⌜ now (state .exit) ≡ stateOf unit ⌝ }
 {
-    let held = [
-        unit.control.mode,
-        flag(unit.control.allowed),
-        (unit.control.requests / 256 % 256) as u8,
-        (unit.control.requests % 256) as u8,
-        (unit.ledger.received / 256 % 256) as u8,
-        (unit.ledger.received % 256) as u8,
-        (unit.ledger.failed / 256 % 256) as u8,
-        (unit.ledger.failed % 256) as u8,
-        unit.ledger.code,
-        unit.ledger.number,
-        unit.watch.abort,
-        unit.ledger.log.bc1,
-        unit.ledger.log.bc2,
-        unit.ledger.log.bc3,
-        unit.ledger.log.size,
-        unit.control.selection,
-        unit.runner.sequence,
-        unit.runner.place,
-        unit.watch.list,
-        (unit.watch.exposures / 256 % 256) as u8,
-        (unit.watch.exposures % 256) as u8,
-        (unit.runner.mirror / 256 % 256) as u8,
-        (unit.runner.mirror % 256) as u8,
-        flag(unit.runner.running),
-        flag(unit.runner.entering),
-        unit.runner.raster,
-        unit.runner.count,
-        (unit.runner.passes / 256 % 256) as u8,
-        (unit.runner.passes % 256) as u8,
-        (unit.runner.repeats / 256 % 256) as u8,
-        (unit.runner.repeats % 256) as u8,
-        unit.runner.rounds,
-    ];
-    bytes::copy(&held, state);
+    save_control(unit.control, state);
+    save_ledger(unit.ledger, state);
+    save_run(unit.watch, unit.runner, state);
 }
 
 // Whether a flag's byte is above 1.
@@ -218,7 +251,12 @@ pub extern "C" fn keel_packet(
     if 16 <= answer.code {
         return told;
     }
-    save(answer.unit, state);
+    let unit = answer.unit;
+    if answer.code != 0 {
+        save_ledger(unit.ledger, state);
+        return told;
+    }
+    save(unit, state);
     told
 }
 
@@ -332,14 +370,18 @@ pub extern "C" fn keel_step(state: &mut [u8], seqs: &[u8], lists: &[u8]) -> u64
     if held != 0 {
         return denied(held);
     }
-    let stepped = unit_of(state).step(seqs, lists);
+    let unit = unit_of(state);
+    let stepped = unit.step(seqs, lists);
     let outcome = stepped.outcome;
     match outcome {
         Outcome::Denied(code) => denied(code),
         Outcome::Saw(event) => {
-            let unit = stepped.unit;
-            save(unit, state);
-            packed(unit.watch.exposures, event)
+            if !unit.runner.running {
+                return 0;
+            }
+            let after = stepped.unit;
+            save_run(after.watch, after.runner, state);
+            packed(after.watch.exposures, event)
         }
     }
 }
