@@ -1,3 +1,4 @@
+-- The report's parts are the definition's, one after another; another size leaves it as it is.
 use mathlib.Core.Path.{_∙_, ap}
 use Rattle.survey.specs.declared.Report.{Report}
 use Rattle.survey.specs.Report.{endingShown, reportOf}
@@ -8,33 +9,23 @@ use Rattle.keel.specs.Report.{checkAnswer, reportAfter}
 use borrow.Author.Needs.{needs}
 use Rattle.keel.proofs.keel_check.Statement.{statement}
 use Rattle.keel.proofs.keel_check.Tie as tie
-use Rattle.keel.proofs.keel_check.Reads as reads
-use Rattle.keel.proofs.keel_check.Lts as lts
-use Rattle.keel.proofs.tell.Reads as tell-reads
-use Rattle.survey.proofs.check.Reads as check-reads
 
--- src/lib.rt:335:9
 returns : tie.Need-returns
 unfolding checkAnswer reportAfter
 returns c = let n = ne-eqb (length (c .before .before .before .before .args .report .now)) 152 (c .if1 .taken) in (simp n, simp n)
 
--- src/lib.rt:337:10
 check-requires : tie.Need-check-requires
 check-requires c κs = search needs
 
--- src/lib.rt:337:5
 tell-requires : tie.Need-tell-requires
 tell-requires c κs = search needs
 
--- src/lib.rt:337:5
 cast-result : tie.Need-cast-result
 cast-result c = search needs
 
--- src/lib.rt:329:1
 same-length : tie.Need-same-length
 same-length c = search needs
 
--- src/lib.rt:329:1
 returns-2 : tie.Need-returns-2
 unfolding reportOf checkAnswer reportAfter
 returns-2 c = let a = c .before .before .before .before .before .before .before .before .before .args in

@@ -1,30 +1,22 @@
+-- The state that is saved, or the bytes as they were.
 use borrow.Author.Tests.{eq-eqb, ne-eqb}
 use lib.ListN.{length}
 use borrow.Author.Needs.{needs}
 use Rattle.keel.proofs.keel_power_on.Statement.{statement}
 use Rattle.keel.proofs.keel_power_on.Tie as tie
-use Rattle.keel.proofs.keel_power_on.Reads as reads
-use Rattle.keel.proofs.keel_power_on.Lts as lts
-use Rattle.keel.proofs.save.Reads as save-reads
-use Rattle.unit.proofs.Unit.power_on.Reads as power-on-reads
 
--- src/lib.rt:167:9
 returns : tie.Need-returns
 returns c = let n = ne-eqb (length (c .before .before .args .state .now)) 32 (c .if1 .taken) in (simp n, simp n)
 
--- src/lib.rt:169:10
 power-on-requires : tie.Need-power-on-requires
 power-on-requires c κs = search needs
 
--- src/lib.rt:169:5
 save-requires : tie.Need-save-requires
 save-requires c κs = search needs
 
--- src/lib.rt:161:1
 same-length : tie.Need-same-length
 same-length c = search needs
 
--- src/lib.rt:161:1
 returns-2 : tie.Need-returns-2
 returns-2 c = let y = eq-eqb (length (c .before .before .before .before .before .before .before .args .state .now)) 32 (c .before .before .before .before .before .if1 .left) in (simp y, simp (y, c .before .before .save .ensures, c .before .before .before .before .power-on .ensures))
 

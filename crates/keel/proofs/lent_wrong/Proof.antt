@@ -1,21 +1,16 @@
+-- Each way out is the definition's branch.
 use Rattle.unit.specs.Packet.{lentWrong}
 use borrow.Author.Needs.{needs}
 use Rattle.keel.proofs.lent_wrong.Statement.{statement}
 use Rattle.keel.proofs.lent_wrong.Tie as tie
-use Rattle.keel.proofs.lent_wrong.Reads as reads
-use Rattle.keel.proofs.lent_wrong.Lts as lts
-use Rattle.memory.proofs.tables_wrong.Reads as tables-wrong-reads
 
--- src/lib.rt:142:8
 tables-wrong-requires : tie.Need-tables-wrong-requires
 tables-wrong-requires c κs = search needs
 
--- src/lib.rt:143:9
 returns : tie.Need-returns
 unfolding lentWrong
 returns c = simp (← c .before .tables-wrong .ensures, c .if1 .taken)
 
--- src/lib.rt:139:1
 returns-2 : tie.Need-returns-2
 unfolding lentWrong
 returns-2 c = simp (← c .before .tables-wrong .ensures, c .if1 .left)

@@ -1,49 +1,37 @@
+-- Each part is written where it stands.
 use mathlib.Core.Path.{_∙_}
 use Rattle.keel.specs.Parts.{ledgerOver}
 use borrow.Author.Needs.{needs}
 use Rattle.keel.proofs.save_ledger.Statement.{statement}
 use Rattle.keel.proofs.save_ledger.Tie as tie
-use Rattle.keel.proofs.save_ledger.Reads as reads
-use Rattle.keel.proofs.save_ledger.Lts as lts
-use Rattle.memory.proofs.write.Reads as write-reads
 
--- src/lib.rt:116:9
 cast-t7 : tie.Need-cast-t7
 cast-t7 c = search needs
 
--- src/lib.rt:117:9
 cast-t9 : tie.Need-cast-t9
 cast-t9 c = search needs
 
--- src/lib.rt:118:9
 cast-t12 : tie.Need-cast-t12
 cast-t12 c = search needs
 
--- src/lib.rt:119:9
 cast-t14 : tie.Need-cast-t14
 cast-t14 c = search needs
 
--- src/lib.rt:124:29
 slice-aggregate-write : tie.Need-slice-aggregate-write
 slice-aggregate-write c = search needs
 
--- src/lib.rt:124:5
 write-requires : tie.Need-write-requires
 write-requires c κs = search needs
 
--- src/lib.rt:125:30
 slice-aggregate-write-2 : tie.Need-slice-aggregate-write-2
 slice-aggregate-write-2 c = search needs
 
--- src/lib.rt:125:5
 write-requires-2 : tie.Need-write-requires-2
 write-requires-2 c κs = search needs
 
--- src/lib.rt:112:1
 same-length : tie.Need-same-length
 same-length c = search needs
 
--- src/lib.rt:112:1
 returns : tie.Need-returns
 unfolding ledgerOver
 returns c = c .before .before .write2 .ensures ∙ simp (c .before .before .before .before .before .before .before .write .ensures)

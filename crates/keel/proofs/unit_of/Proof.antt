@@ -1,112 +1,84 @@
+-- Every field is a byte or a word of the state.
 use Rattle.keel.specs.State.{unitOf}
 use borrow.Author.Needs.{needs}
 use Rattle.keel.proofs.unit_of.Statement.{statement}
 use Rattle.keel.proofs.unit_of.Tie as tie
-use Rattle.keel.proofs.unit_of.Reads as reads
-use Rattle.keel.proofs.unit_of.Lts as lts
-use Rattle.keel.proofs.word.Reads as word-reads
 
--- src/lib.rt:51:23
 word-requires : tie.Need-word-requires
 word-requires c κs = search needs
 
--- src/lib.rt:52:21
 word-requires-2 : tie.Need-word-requires-2
 word-requires-2 c κs = search needs
 
--- src/lib.rt:53:19
 shared-slice-read-t5 : tie.Need-shared-slice-read-t5
 shared-slice-read-t5 c = search needs
 
--- src/lib.rt:54:21
 shared-slice-read-t7 : tie.Need-shared-slice-read-t7
 shared-slice-read-t7 c = search needs
 
--- src/lib.rt:56:22
 shared-slice-read-t9 : tie.Need-shared-slice-read-t9
 shared-slice-read-t9 c = search needs
 
--- src/lib.rt:57:22
 shared-slice-read-t11 : tie.Need-shared-slice-read-t11
 shared-slice-read-t11 c = search needs
 
--- src/lib.rt:58:22
 shared-slice-read-t13 : tie.Need-shared-slice-read-t13
 shared-slice-read-t13 c = search needs
 
--- src/lib.rt:59:23
 shared-slice-read-t15 : tie.Need-shared-slice-read-t15
 shared-slice-read-t15 c = search needs
 
--- src/lib.rt:63:19
 shared-slice-read-t19 : tie.Need-shared-slice-read-t19
 shared-slice-read-t19 c = search needs
 
--- src/lib.rt:64:22
 shared-slice-read-t21 : tie.Need-shared-slice-read-t21
 shared-slice-read-t21 c = search needs
 
--- src/lib.rt:65:23
 word-requires-3 : tie.Need-word-requires-3
 word-requires-3 c κs = search needs
 
--- src/lib.rt:66:24
 shared-slice-read-t25 : tie.Need-shared-slice-read-t25
 shared-slice-read-t25 c = search needs
 
--- src/lib.rt:69:19
 shared-slice-read-t28 : tie.Need-shared-slice-read-t28
 shared-slice-read-t28 c = search needs
 
--- src/lib.rt:70:24
 word-requires-4 : tie.Need-word-requires-4
 word-requires-4 c κs = search needs
 
--- src/lib.rt:71:20
 shared-slice-read-t31 : tie.Need-shared-slice-read-t31
 shared-slice-read-t31 c = search needs
 
--- src/lib.rt:74:23
 shared-slice-read-t34 : tie.Need-shared-slice-read-t34
 shared-slice-read-t34 c = search needs
 
--- src/lib.rt:75:20
 shared-slice-read-t36 : tie.Need-shared-slice-read-t36
 shared-slice-read-t36 c = search needs
 
--- src/lib.rt:76:22
 shared-slice-read-t38 : tie.Need-shared-slice-read-t38
 shared-slice-read-t38 c = search needs
 
--- src/lib.rt:77:23
 shared-slice-read-t41 : tie.Need-shared-slice-read-t41
 shared-slice-read-t41 c = search needs
 
--- src/lib.rt:78:21
 shared-slice-read-t44 : tie.Need-shared-slice-read-t44
 shared-slice-read-t44 c = search needs
 
--- src/lib.rt:79:20
 shared-slice-read-t46 : tie.Need-shared-slice-read-t46
 shared-slice-read-t46 c = search needs
 
--- src/lib.rt:80:21
 word-requires-5 : tie.Need-word-requires-5
 word-requires-5 c κs = search needs
 
--- src/lib.rt:81:22
 word-requires-6 : tie.Need-word-requires-6
 word-requires-6 c κs = search needs
 
--- src/lib.rt:82:21
 shared-slice-read-t50 : tie.Need-shared-slice-read-t50
 shared-slice-read-t50 c = search needs
 
--- src/lib.rt:83:21
 word-requires-7 : tie.Need-word-requires-7
 word-requires-7 c κs = search needs
 
--- src/lib.rt:45:1
 returns : tie.Need-returns
 unfolding unitOf
 returns c = let d = c .before .before .before .before .before .before .before .before .before .before .before in
