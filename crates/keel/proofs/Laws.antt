@@ -18,7 +18,7 @@ use Rattle.runner.specs.declared.Runner.{Runner}
 use Rattle.runner.specs.declared.Event.{Event}
 use Rattle.runner.specs.declared.Event.the-variants.{Idle}
 use Rattle.runner.specs.declared.Stepped.{Stepped}
-use Rattle.runner.specs.Step.{stepOf}
+use Rattle.runner.specs.Step.{to, stepOf}
 use Rattle.runner.proofs.Laws.{step-idle}
 use Rattle.keel.proofs.Idle.{idle-same}
 use Rattle.unit.specs.declared.Unit.{Unit}
@@ -30,7 +30,7 @@ use Rattle.unit.specs.Packet.{lentWrong, codeOf}
 use Rattle.unit.specs.Answer.{unitAfter}
 use Rattle.unit.proofs.Laws.{Kept, refused-keeps}
 use Rattle.unit.specs.Step.{stepRows, stepped, taken, unitStepBy, unitStep}
-use Rattle.unit.specs.State.{withLedger, withWatch, withRunner}
+use Rattle.unit.specs.State.{withLedger, withWatch, withRunner, outOfRange}
 use Rattle.keel.specs.State.{isSet, flag, unitOf, stateOf, flagsWrong}
 use Rattle.keel.specs.Parts.{controlOver, ledgerOver, runOver}
 use Rattle.keel.specs.Calls.{stateSized, heldRows, heldCode, packetCode, stateAfter, keptSeqs, keptLists, keptOut, heldStep, stateBy, stateStepped}
@@ -127,11 +127,11 @@ pub held-high : (lent : Bool) (s : List ℕ) (held : ℕ) → held ≡ heldCode 
 unfolding heldRows
 held-high lent s held e n = rw e (high (stateSized s) lent (flagsWrong s) (λ z. n (e ∙ z)))
 
-pub held-passed : (lent : Bool) (s : List ℕ) → heldCode lent s ≡ 0 → (length s ≡ 32) × (flagsWrong s ≡ false)
+pub held-passed : (lent : Bool) (s : List ℕ) → heldCode lent s ≡ 0 → (length s ≡ 32) × ((flagsWrong s ≡ false) × (lent ≡ false))
 unfolding heldRows
 held-passed lent s h =
     let n = none-holds (heldRows lent s) tt h in
-    (eqb-true (length s) 32 (not-false (stateSized s) (n .0)), n .1 .1 .0)
+    (eqb-true (length s) 32 (not-false (stateSized s) (n .0)), (n .1 .1 .0, n .1 .0))
 
 -- ── a step
 -- a step leaves what commands set and what a refusal may change
@@ -144,16 +144,15 @@ pub step-keeps : (u : Unit) (seqs lists : List ℕ) → (unitStep u seqs lists .
 unfolding unitStep
 step-keeps u seqs lists = kept-by (eqb (firstCode (stepRows u seqs lists)) 0) u (stepOf (envOf lists) seqs (u .runner)) (firstCode (stepRows u seqs lists))
 
-idle-by : (t : Bool) (u : Unit) (code : ℕ) (r : UnitStep) (e : Event) → r ≡ cond t (stepped (Saw Idle) u) (stepped (Denied code) u) → r .outcome ≡ Saw e → (e ≡ Idle) × (r .unit ≡ u)
-idle-by true u code r e f o = (cc, cc)
-idle-by false u code r e f o = let z : _≡_ {A = ℕ} 0 1 = cc in absurd (omega arith)
+rest-by : (t : Bool) (u : Unit) → unitStepBy (cond t 17 0) u (to Idle (u .runner)) ≡ cond t (stepped (Denied 17) u) (stepped (Saw Idle) u)
+unfolding taken
+rest-by true u = refl
+rest-by false u = refl
 
--- a unit that does not run idles, unless the step is refused
-pub step-idles : (u : Unit) (seqs lists : List ℕ) (e : Event) → u .runner .running ≡ false → unitStep u seqs lists .outcome ≡ Saw e → (e ≡ Idle) × (unitStep u seqs lists .unit ≡ u)
-unfolding unitStep taken
-step-idles u seqs lists e n o =
-    let code = firstCode (stepRows u seqs lists) in
-    idle-by (eqb code 0) u code (unitStep u seqs lists) e (ap (unitStepBy code u) (sym (step-idle (envOf lists) seqs (u .runner) n))) o
+-- a unit that does not run idles, unless it is out of range
+pub at-rest : (u : Unit) (seqs lists : List ℕ) → tablesWrong seqs lists ≡ false → u .runner .running ≡ false → unitStep u seqs lists ≡ cond (outOfRange u) (stepped (Denied 17) u) (stepped (Saw Idle) u)
+unfolding stepRows unitStep
+at-rest u seqs lists t n = simp (t, ← step-idle (envOf lists) seqs (u .runner) n) (rest-by (outOfRange u) u)
 
 -- a step that shows IDLE leaves the unit as it was
 shown-by : (t : Bool) (u : Unit) (r : Stepped) (code : ℕ) → (r .event ≡ Idle → r .runner ≡ u .runner) → cond t (taken u r) (stepped (Denied code) u) .outcome ≡ Saw Idle → cond t (taken u r) (stepped (Denied code) u) .unit ≡ u
@@ -184,7 +183,7 @@ module _ (s seqs lists : List ℕ) where
       let held = heldCode (tablesWrong seqs lists) s in
       let u = unitOf s in
       idle-left (eqb held 0) held s u (unitStep u seqs lists)
-      (λ z o. let (sized, flags) = held-passed (tablesWrong seqs lists) s (eqb-true held 0 z) in ap stateOf (shown-idle u seqs lists o) ∙ load-save s sized octets flags)
+      (λ z o. let (sized, (flags, lent)) = held-passed (tablesWrong seqs lists) s (eqb-true held 0 z) in ap stateOf (shown-idle u seqs lists o) ∙ load-save s sized octets flags)
 
   -- "16 and 17 leave every lent byte as it was"
   pub denied-keeps : (code : ℕ) → heldStep s seqs lists .outcome ≡ Denied code → stateStepped s seqs lists ≡ s
@@ -252,7 +251,7 @@ module _ (s : List ℕ) (time : ℕ) (seqs lists out p : List ℕ) where
       let u = unitOf s in
       let v = unitAfter u seqs lists out p in
       let (none, code) = passed-by (heldCode lent s) (codeOf u seqs lists out p) (held-high lent s (heldCode lent s) refl) high in
-      let (sized, flags) = held-passed lent s none in
+      let (sized, (flags, fits)) = held-passed lent s none in
       let part = refused-unit u seqs lists out p (λ z. omega (arith, code)) in
       let after : stateAfter s seqs lists out p ≡ stateOf (withLedger (v .ledger) u) = simp (lt-leb 16 (packetCode s seqs lists out p) (omega arith)) (ap stateOf (sym part)) in
       let before = load-save s sized octets flags in

@@ -10,6 +10,7 @@ use lib.Seq.{take-append-seam, drop-append-add}
 use borrow.Author.Tests.{le-leb, lt-leb, eq-eqb, ne-eqb}
 use Rattle.memory.specs.Memory.{tablesWrong, written}
 use Rattle.runner.specs.declared.Event.{Event}
+use Rattle.runner.specs.declared.Event.the-variants.{Idle}
 use Rattle.runner.specs.Events.{shownAs}
 use Rattle.survey.specs.declared.Report.{Report}
 use Rattle.survey.specs.Chain.{Told, checkOf}
@@ -20,17 +21,17 @@ use Rattle.unit.specs.declared.Kind.the-variants.{Status, Dump, Allow, Mode, Cl
 use Rattle.unit.specs.declared.Answer.{Answer}
 use Rattle.unit.specs.declared.Outcome.the-variants.{Denied, Saw}
 use Rattle.unit.specs.declared.UnitStep.{UnitStep}
-use Rattle.unit.specs.State.{withLedger, withWatch, withRunner}
+use Rattle.unit.specs.State.{withLedger, withWatch, withRunner, outOfRange}
 use Rattle.unit.specs.Packet.{lentWrong, codeOf}
 use Rattle.unit.specs.Status.{statusOf, two}
 use Rattle.unit.specs.Answer.{reply, commandOf, obeyedSeqs, obeyedLists, unitAfter, replyOf, answerOf, seqsAfter, listsAfter, outAfter}
-use Rattle.unit.specs.Step.{unitStep}
+use Rattle.unit.specs.Step.{stepped, unitStep}
 use Rattle.unit.proofs.Ways.{dump-short}
 use Rattle.keel.specs.State.{unitOf, stateOf, flagsWrong}
 use Rattle.keel.specs.Parts.{ledgerOver, runOver}
 use Rattle.keel.specs.Calls.{stateSized, heldRows, heldCode, packetCode, packetReply, packetAnswer, stateAfter, keptSeqs, keptLists, keptOut, packed, deniedAs, heldStep, stepAnswer, stateStepped}
 use Rattle.keel.specs.Report.{eight, reportBytes}
-use Rattle.keel.proofs.Laws.{Octets, load-save, ledger-over, run-over, held-high, held-passed, step-keeps, step-idles, refused-unit}
+use Rattle.keel.proofs.Laws.{Octets, load-save, ledger-over, run-over, held-high, held-passed, step-keeps, at-rest, refused-unit}
 
 -- ── an answer's length
 reply-short : (k : Kind) (u : Unit) (time : ℕ) (seqs lists p : List ℕ) → length (reply k u time seqs lists p) ≤ 16384
@@ -103,7 +104,7 @@ module _ (s : List ℕ) (time : ℕ) (seqs lists out p : List ℕ) where
       unfolding answerOf
       counts s' h n o f =
           let v = unitAfter u seqs lists out p in
-          let (sized, flags) = held-passed lent s (sym told ∙ none) in
+          let (sized, (flags, fits)) = held-passed lent s (sym told ∙ none) in
           let same : s ≡ stateOf u = sym (ap stateOf read ∙ load-save s sized o flags) in
           let part = refused-unit u seqs lists out p (λ z. n (ap (λ (x : Answer). x .code) (e .0) ∙ z)) in
           moves s' h (f ∙ simp (e .0) (ap (ledgerOver (v .ledger)) same ∙ ledger-over (v .ledger) u ∙ ap stateOf part))
@@ -121,32 +122,37 @@ module _ (s seqs lists : List ℕ) where
     unfolding heldStep stepAnswer stateStepped
     step-held-back n = simp (← by-size, ne-eqb held 0 n) (refl, refl)
 
-    module _ (none : held ≡ 0) (u : Unit) (read : u ≡ unitOf s) (r : UnitStep) (e : r ≡ unitStep u seqs lists) where
-      pub denies : (code : ℕ) → r .outcome ≡ Denied code → Stepped (deniedAs code) s
-      unfolding heldStep stepAnswer stateStepped
-      denies code o = simp (← by-size, none, ← read, ← e, o) (refl, refl)
+    module _ (none : held ≡ 0) (u : Unit) (read : u ≡ unitOf s) where
+      module _ (r : UnitStep) (e : r ≡ unitStep u seqs lists) where
+        pub denies : (code : ℕ) → r .outcome ≡ Denied code → Stepped (deniedAs code) s
+        unfolding heldStep stepAnswer stateStepped
+        denies code o = simp (← by-size, none, ← read, ← e, o) (refl, refl)
 
-      sees : (event : Event) (s' : List ℕ) → r .outcome ≡ Saw event → s' ≡ stateOf (r .unit) → Stepped (packed (shownAs (r .unit .watch .exposures) event)) s'
-      unfolding heldStep stepAnswer stateStepped
-      sees event s' o f = simp (← by-size, none, ← read, ← e, o, f) (refl, refl)
+        sees : (event : Event) (s' : List ℕ) → r .outcome ≡ Saw event → s' ≡ stateOf (r .unit) → Stepped (packed (shownAs (r .unit .watch .exposures) event)) s'
+        unfolding heldStep stepAnswer stateStepped
+        sees event s' o f = simp (← by-size, none, ← read, ← e, o, f) (refl, refl)
 
-      module _ (octets : Octets s) (event : Event) (saw : r .outcome ≡ Saw event) where
-        same : s ≡ stateOf u
-        same = let (sized, flags) = held-passed lent s (sym told ∙ none) in sym (ap stateOf read ∙ load-save s sized octets flags)
+      same : Octets s → s ≡ stateOf u
+      same octets = let (sized, (flags, fits)) = held-passed lent s (sym told ∙ none) in sym (ap stateOf read ∙ load-save s sized octets flags)
 
-        -- a step that idles: nothing is written
-        pub idles : u .runner .running ≡ false → Stepped 0 s
-        idles n =
-            let (i, k) = step-idles u seqs lists event n (ap (λ (x : UnitStep). x .outcome) (sym e) ∙ saw) in
-            rw i at (sees event s saw (same ∙ ap stateOf (sym (ap (λ (x : UnitStep). x .unit) e ∙ k))))
+      -- a unit that does not run: nothing is written
+      module _ (still : u .runner .running ≡ false) where
+        rests : unitStep u seqs lists ≡ cond (outOfRange u) (stepped (Denied 17) u) (stepped (Saw Idle) u)
+        rests = let (sized, (flags, fits)) = held-passed lent s (sym told ∙ none) in at-rest u seqs lists (sym size ∙ fits) still
 
-        -- another step: the run alone is written
-        pub moves-on : (s' : List ℕ) → s' ≡ runOver (r .unit .watch) (r .unit .runner) s → Stepped (packed (shownAs (r .unit .watch .exposures) event)) s'
-        moves-on s' f =
-            let v = r .unit in
-            let k = step-keeps u seqs lists in
-            let part : withWatch (v .watch) (withRunner (v .runner) u) ≡ v = λ i. record { ledger = (sym (k .0) ∙ ap (λ (x : UnitStep). x .unit .ledger) (sym e)) i; control = (sym (k .1) ∙ ap (λ (x : UnitStep). x .unit .control) (sym e)) i; watch = v .watch; runner = v .runner } in
-            sees event s' saw (f ∙ ap (runOver (v .watch) (v .runner)) same ∙ run-over (v .watch) (v .runner) u ∙ ap stateOf part)
+        pub refuses : outOfRange u ≡ true → Stepped (deniedAs 17) s
+        refuses h = denies (stepped (Denied 17) u) (sym (simp h at rests)) 17 refl
+
+        pub idles : Octets s → outOfRange u ≡ false → Stepped 0 s
+        idles octets h = sees (stepped (Saw Idle) u) (sym (simp h at rests)) Idle s refl (same octets)
+
+      -- a unit that runs: the run alone is written
+      pub moves-on : (r : UnitStep) → r ≡ unitStep u seqs lists → Octets s → (event : Event) → r .outcome ≡ Saw event → (s' : List ℕ) → s' ≡ runOver (r .unit .watch) (r .unit .runner) s → Stepped (packed (shownAs (r .unit .watch .exposures) event)) s'
+      moves-on r e octets event saw s' f =
+          let v = r .unit in
+          let k = step-keeps u seqs lists in
+          let part : withWatch (v .watch) (withRunner (v .runner) u) ≡ v = λ i. record { ledger = (sym (k .0) ∙ ap (λ (x : UnitStep). x .unit .ledger) (sym e)) i; control = (sym (k .1) ∙ ap (λ (x : UnitStep). x .unit .control) (sym e)) i; watch = v .watch; runner = v .runner } in
+          sees r e event s' saw (f ∙ ap (runOver (v .watch) (v .runner)) (same octets) ∙ run-over (v .watch) (v .runner) u ∙ ap stateOf part)
 
 -- ── a report
 -- a part written after what is written already

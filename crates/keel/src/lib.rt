@@ -371,14 +371,17 @@ pub extern "C" fn keel_step(state: &mut [u8], seqs: &[u8], lists: &[u8]) -> u64
         return denied(held);
     }
     let unit = unit_of(state);
+    if !unit.runner.running {
+        if unit.out_of_range() {
+            return denied(17);
+        }
+        return 0;
+    }
     let stepped = unit.step(seqs, lists);
     let outcome = stepped.outcome;
     match outcome {
         Outcome::Denied(code) => denied(code),
         Outcome::Saw(event) => {
-            if !unit.runner.running {
-                return 0;
-            }
             let after = stepped.unit;
             save_run(after.watch, after.runner, state);
             packed(after.watch.exposures, event)

@@ -1,4 +1,4 @@
--- The event's number and values, packed.
+-- The parts of the report are the definition's, one after another.
 use mathlib.Core.Path.{_≡_}
 use lib.ListN.{length}
 use Rattle.keel.proofs.Ways.{reported}
