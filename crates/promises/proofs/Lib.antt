@@ -44,4 +44,4 @@ pub mod Demand2
 pub mod EachStep
 pub mod OneAnswer
 pub mod Samples
-pub mod Calls
+pub mod TheCode

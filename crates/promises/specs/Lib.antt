@@ -9,4 +9,4 @@ pub mod Demand1
 pub mod Demand2
 pub mod EachStep
 pub mod OneAnswer
-pub mod Calls
+pub mod TheCode

@@ -1,5 +1,5 @@
 -- The demands, for the code: the contracts are equations with what the demands name. Assumes nothing.
-use Rattle.promises.specs.Calls.{StepIs, PacketIs, CheckIs}
+use Rattle.promises.specs.TheCode.{StepIs, PacketIs, CheckIs}
 
 pub step-is : StepIs
 step-is κs a r e h = h
