@@ -1,18 +1,19 @@
 /*
  * The time of each call in both libraries, side by side. For each row the two take turns in batches of
- * a few milliseconds, and the medians over all batches are shown. A row's time has in it the copy of
- * 32 bytes that puts the state back before each call.
+ * part of a millisecond, and the least of all batches is shown: the machine's other work can only add.
+ * A row's time has in it the copy of 32 bytes that puts the state back before each call. Each row is
+ * printed as its name, proved and plain nanoseconds, with tabs between.
  */
 #include "keel.h"
+#include "make.h"
 #include "plain.h"
 
 #include <stdbool.h>
 #include <stdio.h>
-#include <stdlib.h>
 #include <string.h>
 #include <time.h>
 
-enum { BATCHES = 61, BATCH_NS = 1500000, RUN = 1000 };
+enum { BATCHES = 101, BATCH_NS = 400000, RUN = 1000 };
 
 static uint8_t state[PLAIN_STATE];
 static uint8_t seqs[PLAIN_SEQUENCES];
@@ -98,33 +99,28 @@ static double batch(call f, unsigned long n)
     return (nanoseconds() - start) / (double)n;
 }
 
-static int by_size(const void *a, const void *b)
+/* A row of calls that do so many things each; its times are those of one. */
+static void row_of_many(const char *name, call keel, call plain, unsigned things)
 {
-    double x = *(const double *)a, y = *(const double *)b;
-    return (x > y) - (x < y);
-}
-
-static double median(double *times)
-{
-    qsort(times, BATCHES, sizeof *times, by_size);
-    return times[BATCHES / 2];
-}
-
-static void row(const char *name, call keel, call plain)
-{
-    double keel_times[BATCHES], plain_times[BATCHES], k, p;
+    double k = 1e18, p = 1e18;
     unsigned long n = 1;
 
     while (batch(plain, n) * (double)n < BATCH_NS)
         n *= 2;
     for (int i = 0; i < BATCHES; i++) {
-        keel_times[i] = batch(keel, n);
-        plain_times[i] = batch(plain, n);
+        double keel_time = batch(keel, n), plain_time = batch(plain, n);
+        if (keel_time < k)
+            k = keel_time;
+        if (plain_time < p)
+            p = plain_time;
     }
-    k = median(keel_times);
-    p = median(plain_times);
-    printf("%-34s %12.1f %12.1f %8.2f\n", name, k, p, k / p);
+    printf("%s\t%.2f\t%.2f\n", name, k / things, p / things);
     fflush(stdout);
+}
+
+static void row(const char *name, call keel, call plain)
+{
+    row_of_many(name, keel, plain, 1);
 }
 
 static void packet_row(const char *name, const uint8_t *packet, size_t length)
@@ -134,50 +130,7 @@ static void packet_row(const char *name, const uint8_t *packet, size_t length)
     row(name, keel_one_packet, plain_one_packet);
 }
 
-/* ---- Tables and states ---- */
-
-static uint8_t xor_over(const uint8_t *p, size_t n)
-{
-    uint8_t sum = 0;
-    while (n-- > 0)
-        sum ^= *p++;
-    return sum;
-}
-
-static uint8_t *put(uint8_t *at, const uint8_t *bytes, size_t n)
-{
-    memcpy(at, bytes, n);
-    return at + n;
-}
-
-/* A ring of 128 sequences of 128 bytes, each with four rasters: 2 repeats of 2 loops of an exposure,
- * with delays; and one line list of 25 windows. */
-static void fill_tables(void)
-{
-    static const uint8_t raster[] = {0x90, 0, 7, 0, 100, 0, 2, 0, 0, 0, 0, 2, 1, 1, 0, 0xF0, 2, 0, 3, 0, 10, 0, 0};
-    static const uint8_t delay[] = {0x95, 0, 5}, expose[] = {0x91, 0, 100};
-
-    lists[0] = 14 + 6 * 25;
-    lists[2] = 25;
-    lists[3] = xor_over(lists, lists[0]);
-    for (unsigned i = 0; i < 128; i++) {
-        uint8_t *text = seqs + 128 * i, *at = text + 4;
-        text[0] = 128;
-        text[3] = 1;
-        for (unsigned k = 0; k < 4; k++) {
-            at = put(at, raster, sizeof raster);
-            if (k > 0)
-                at = put(at, delay, sizeof delay);
-            at = put(at, expose, sizeof expose);
-            *at++ = 0x92;
-            *at = (uint8_t)(at - text - 1 - (int)sizeof expose);
-            at++;
-        }
-        *at++ = 0x93;
-        *at++ = (uint8_t)((i + 1) % 128);
-        *at = xor_over(text, 127);
-    }
-}
+/* ---- States ---- */
 
 static void obey(const uint8_t *packet, size_t length)
 {
@@ -194,6 +147,15 @@ static void start(bool running)
     if (running)
         obey((const uint8_t[]){0x21, 3}, 2);
     memcpy(now.start, state, sizeof state);
+}
+
+/* The check of a chain of n sequences: the time of one of them. */
+static void chain_row(unsigned n)
+{
+    char name[40];
+    make_ring(seqs, lists, n);
+    snprintf(name, sizeof name, "check, a sequence of a chain of %u", n);
+    row_of_many(name, keel_one_check, plain_one_check, n);
 }
 
 /* A step of a kind: the nth one after the start. */
@@ -214,9 +176,8 @@ int main(void)
     static const uint8_t refused[] = {0xE5, 0x06, 0x00, 0x00, 0x01, 0x00};
     uint8_t uplink[133] = {0xE7, 0x07, 0x00, 0x00, 0x80};
 
-    fill_tables();
+    make_ring(seqs, lists, 128);
     memcpy(uplink + 5, seqs, 128);
-    printf("%-34s %12s %12s %8s\n", "nanoseconds a call", "keel", "plain", "ratio");
     start(false);
     packet_row("status", status, sizeof status);
     packet_row("dump of 16,384", dump, sizeof dump);
@@ -233,5 +194,9 @@ int main(void)
     start(true);
     row("1,000 steps of a run", keel_run, plain_run);
     row("check of 128 full sequences", keel_one_check, plain_one_check);
+    chain_row(1);
+    chain_row(16);
+    chain_row(64);
+    chain_row(128);
     return 0;
 }

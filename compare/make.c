@@ -322,6 +322,46 @@ void make_tables(uint8_t *seqs, uint8_t *lists)
         make_sequence(seqs + ENTRY * i, i, damage);
 }
 
+/* ---- A ring of full sequences ---- */
+
+static uint8_t *put(uint8_t *at, const uint8_t *bytes, size_t n)
+{
+    memcpy(at, bytes, n);
+    return at + n;
+}
+
+static void put_full_sequence(uint8_t *text, unsigned next)
+{
+    static const uint8_t raster[] = {0x90, 0, 7, 0, 100, 0, 2, 0, 0, 0, 0, 2, 1, 1, 0, 0xF0, 2, 0, 3, 0, 10, 0, 0};
+    static const uint8_t delay[] = {0x95, 0, 5}, expose[] = {0x91, 0, 100};
+    uint8_t *at = text + 4;
+
+    text[0] = ENTRY;
+    text[3] = 1;
+    for (unsigned k = 0; k < 4; k++) {
+        at = put(at, raster, sizeof raster);
+        if (k > 0)
+            at = put(at, delay, sizeof delay);
+        at = put(at, expose, sizeof expose);
+        *at++ = 0x92;
+        *at = (uint8_t)(at - text - 1 - (int)sizeof expose);
+        at++;
+    }
+    *at++ = 0x93;
+    *at++ = (uint8_t)next;
+    *at = xor_over(text, ENTRY - 1);
+}
+
+void make_ring(uint8_t *seqs, uint8_t *lists, unsigned n)
+{
+    memset(lists, 0, LIST_ENTRY);
+    lists[0] = LIST_ENTRY;
+    lists[2] = 25;
+    lists[3] = xor_over(lists, LIST_ENTRY);
+    for (unsigned i = 0; i < n; i++)
+        put_full_sequence(seqs + ENTRY * i, (i + 1) % n);
+}
+
 /* ---- States ---- */
 
 /* The state's bytes, as keel.h lays them out. */

@@ -133,12 +133,22 @@ static void add_one(uint8_t *p)
     put_word(p, word(p) + 1);
 }
 
+/* Eight bytes at a time, then what is left of them. */
 static uint8_t xor_of(const uint8_t *p, unsigned length)
 {
-    uint8_t sum = 0;
-    for (unsigned i = 0; i < length; i++)
-        sum ^= p[i];
-    return sum;
+    uint64_t sum = 0, eight;
+    uint8_t last;
+    for (; length >= sizeof eight; length -= sizeof eight, p += sizeof eight) {
+        memcpy(&eight, p, sizeof eight);
+        sum ^= eight;
+    }
+    sum ^= sum >> 32;
+    sum ^= sum >> 16;
+    sum ^= sum >> 8;
+    last = (uint8_t)sum;
+    while (length-- > 0)
+        last ^= *p++;
+    return last;
 }
 
 /* ---- The state ---- */

@@ -1,17 +1,22 @@
 #!/usr/bin/env bash
 # compare/run.sh [STAGE..]: builds the plain implementation and compares the proved library with it.
-# With no stage it runs them all, in this order:
+# With no stage it runs all of these, in this order:
 #   plain    builds the plain programs and runs the demonstrations through the plain desk
 #   self     the driver and the benchmark with the plain library on both sides, then with a wrong
 #            rule planted in one of them, which the driver must find
 #   library  the driver with the proved library
-#   bench    the time of each call, proved library and plain one side by side
-#   desks    the two desk programs on one script: equal output, lines a second
+#   desks    the two desk programs on two scripts: equal output
 #   surveys  the two table checks at the desk: equal output
+#   bench    one table of times, proved and plain side by side; its last line names the rows over their bar
+# By name alone:
+#   baseline         the same as bench, and its rows are kept in compare/baseline.txt
+#   vectors FOLDER   the proved programs on the folder's desk-N.in and tables-N.bin; says how many are equal
+#   unproved STAGE.. library and bench take the library as its sources stand, compiled without its proofs
 # All programs are for x86-64, built by the same compiler as the proved ones, and run with its C library;
 # on another machine they run under its emulator, and their times say nothing.
 set -euo pipefail
 
+from=$PWD
 cd "$(dirname "${BASH_SOURCE[0]}")/.."
 here=compare
 build=target/compare
@@ -20,12 +25,13 @@ own=$kit/on/$(uname -m)
 tools=$own/toolchain
 lines=100000
 rounds=4000
+unproved=
 
 runner=("$tools/lib/ld-linux-x86-64.so.2" --library-path "$tools/lib")
 emulated=
 if [ -x "$tools/bin/qemu-x86_64" ]; then
     runner=("$tools/bin/qemu-x86_64" "${runner[@]}")
-    emulated=' (under the emulator: these times say nothing)'
+    emulated='under the emulator: these times say nothing'
     rounds=400
 fi
 
@@ -45,19 +51,20 @@ as_keel=(-Dplain_power_on=keel_power_on -Dplain_packet=keel_packet -Dplain_step=
 
 build_plain() {
     mkdir -p "$build"
-    for name in plain make plain_desk plain_survey made; do
+    for name in plain make plain_desk plain_survey made turns; do
         compile "$build/$name.o" "$here/$name.c"
     done
     assemble "$build/plain_desk" "$build/plain_desk.o" "$build/plain.o"
     assemble "$build/plain_survey" "$build/plain_survey.o" "$build/plain.o"
     assemble "$build/made" "$build/made.o" "$build/make.o" "$build/plain.o"
+    assemble "$build/turns" "$build/turns.o"
 }
 
 # The driver and the benchmark over some keel: FOLDER for what is built, INCLUDE with keel.h, FILE that has it.
 build_over() { # FOLDER INCLUDE FILE
     for name in driver bench; do compile "$1/$name.o" "$here/$name.c" -I "$2"; done
     assemble "$1/driver" "$1/driver.o" "$build/make.o" "$build/plain.o" "$3"
-    assemble "$1/bench" "$1/bench.o" "$build/plain.o" "$3"
+    assemble "$1/bench" "$1/bench.o" "$build/make.o" "$build/plain.o" "$3"
 }
 
 stage_plain() {
@@ -74,7 +81,7 @@ stage_self() {
     compile "$self/keel.o" "$here/plain.c" "${as_keel[@]}"
     build_over "$self" "$self" "$self/keel.o"
     run "$self/driver" 1 "$((rounds / 10))" | tail -n 1
-    run "$self/bench"
+    run "$self/bench" | awk -f "$here/table.awk" /dev/null /dev/null -
     while IFS=$'\t' read -r name rule; do
         sed "$rule" "$here/plain.c" >"$self/planted.c"
         if cmp -s "$here/plain.c" "$self/planted.c"; then echo "planted, $name: it changes nothing"; return 1; fi
@@ -86,13 +93,46 @@ stage_self() {
     done <"$here/planted.txt"
 }
 
-# The driver and the benchmark over the proved library, once for both stages.
+# What the proved archive is made of: the kit and the crates' code, definitions and proofs.
+sources() {
+    {
+        rt version
+        find crates crates.txt \( -name '*.rt' -o -name '*.antt' -o -name crates.txt \) -exec sha256sum {} + | sort
+    } | sha256sum
+}
+
+# The library compiled without its proofs.
+compile_unproved() { # ARCHIVE
+    local file name libraries=()
+    for file in crates/*/src/lib.rt "$kit"/libs/*/src/lib.rt; do
+        name=$(basename "${file%/src/lib.rt}")
+        [ "$name" = keel ] || libraries+=(--lib "$name=$file")
+    done
+    "$own/bin/rattle-cases" --toolchain "$tools" --staticlib "$1" crates/keel/src/lib.rt --crate-name keel "${libraries[@]}"
+}
+
+# The driver and the benchmark over the library, which is proved again only where something has changed.
 build_library() {
-    [ -z "${library_built:-}" ] || return 0
-    mkdir -p "$build/library"
-    rt staticlib keel
-    build_over "$build/library" include target/staticlib/libkeel.a
-    library_built=yes
+    local library=$build/library archive=target/staticlib/libkeel.a
+    mkdir -p "$library"
+    if [ -n "$unproved" ]; then
+        archive=$library/unproved.a
+        compile_unproved "$archive"
+    elif [ ! -f "$archive" ] || [ "$(sources)" != "$(cat "$library/sources" 2>/dev/null)" ]; then
+        rm -f "$library/sources"
+        rt staticlib keel
+        sources >"$library/sources"
+    fi
+    build_over "$library" include "$archive"
+}
+
+# The proved programs, and what they are run on: a script of 100,000 lines; 2.6 million steps of the two sequences that call
+# each other in demo/; tables.
+build_programs() {
+    rt check desk tablecheck
+    run "$build/made" script 1 "$lines" >"$build/lines.in"
+    { sed '/^01$/,$d' demo/two-that-call-each-other.in; printf 'STEP 65535\n%.0s' {1..40}; } >"$build/steps.in"
+    run "$build/made" tables 1 >"$build/tables.bin"
 }
 
 stage_library() {
@@ -100,36 +140,63 @@ stage_library() {
     for seed in 1 2 3 4; do run "$build/library/driver" "$seed" "$rounds"; done
 }
 
-stage_bench() {
-    build_library
-    echo "times$emulated"
+# The least proved and plain time of each row, where rows come more than once.
+least() {
+    awk -F '\t' '
+        !($1 in proved) { names[++n] = $1; proved[$1] = $2; plain[$1] = $3 }
+        $2 < proved[$1] { proved[$1] = $2 }
+        $3 < plain[$1] { plain[$1] = $3 }
+        END { for (i = 1; i <= n; i++) print names[i] "\t" proved[names[i]] "\t" plain[names[i]] }'
+}
+
+in_turns() { # NAME ROUNDS INPUT PROVED PLAIN
+    run "$build/turns" "$@" "${runner[@]}"
+}
+
+# The kind of machine, the day, and the commit that the code was last changed by.
+this_run() {
+    local kind code
+    kind=$(sed -n 's/^model name[^:]*: //p' /proc/cpuinfo | head -n 1)
+    code=$(git log -1 --format=%h -- 'crates/*/src/*' crates.txt)
+    git diff --quiet HEAD -- 'crates/*/src/*' crates.txt || code+=' and changes'
+    echo "$(uname -m) ${kind:-unnamed}, $(nproc) processors; $(date -u +%F); code of $code${unproved:+, NOT PROVED}"
+}
+
+# Every row once, as the libraries and the programs are now.
+rows() {
     run "$build/library/bench"
+    [ -z "$unproved" ] || return 0
+    in_turns 'desk, 100,000 lines' 9 "$build/lines.in" target/bin/desk "$build/plain_desk"
+    in_turns 'desk, 2.6 million steps' 9 "$build/steps.in" target/bin/desk "$build/plain_desk"
+    in_turns 'tablecheck of 128' 101 "$build/tables.bin" target/bin/tablecheck "$build/plain_survey"
 }
 
-# Microseconds of one run.
-time_of() { # PROGRAM INPUT OUTPUT
-    local begin=${EPOCHREALTIME/[.,]/}
-    run "$1" <"$2" >"$3"
-    echo $((${EPOCHREALTIME/[.,]/} - begin))
+# Where a process happens to lie in memory, and what else the machine does, moves a row by a tenth: so all rows five times.
+stage_bench() {
+    local stored=$here/baseline.txt
+    build_library
+    [ -n "$unproved" ] || build_programs
+    for _ in 1 2 3 4 5; do rows; done | least >"$build/rows.tsv"
+    [ -z "$emulated" ] || echo "$emulated"
+    echo "this run: $(this_run)"
+    if [ -f "$stored" ]; then sed -n 's/^# /baseline: /p' "$stored"; else stored=/dev/null; fi
+    awk -f "$here/table.awk" "$here/bars.txt" "$stored" "$build/rows.tsv"
 }
 
-# The middle one of seven numbers, a line each.
-median() { sort -n | sed -n 4p; }
+stage_baseline() {
+    [ -z "$unproved" ] || { echo "run.sh: a baseline is of proved code" >&2; return 2; }
+    stage_bench
+    { echo "# $(this_run)"; cat "$build/rows.tsv"; } >"$here/baseline.txt"
+}
 
 stage_desks() {
-    local script=$build/script.in desk='' plain=''
-    rt check desk
-    run "$build/made" script 1 "$lines" >"$script"
-    for _ in 1 2 3 4 5 6 7; do
-        desk+=$(time_of target/bin/desk "$script" "$build/desk.out")$'\n'
-        plain+=$(time_of "$build/plain_desk" "$script" "$build/plain_desk.out")$'\n'
+    local script
+    build_programs
+    for script in lines steps; do
+        run target/bin/desk <"$build/$script.in" >"$build/desk.out"
+        run "$build/plain_desk" <"$build/$script.in" | cmp - "$build/desk.out"
+        echo "desks: equal output, $(wc -l <"$build/$script.in") lines in, $(wc -l <"$build/desk.out") out"
     done
-    cmp "$build/desk.out" "$build/plain_desk.out"
-    echo "desks: equal output, $lines lines in, $(wc -l <"$build/desk.out") out"
-    desk=$(printf %s "$desk" | median)
-    plain=$(printf %s "$plain" | median)
-    echo "desk $((lines * 1000000 / desk)) lines/s, plain desk $((lines * 1000000 / plain)) lines/s$emulated"
-    echo "ratio of times $(awk "BEGIN { printf \"%.2f\", $desk / $plain }")"
 }
 
 # The two table checks on one input, with these words as arguments.
@@ -139,7 +206,7 @@ same_survey() { # INPUT WORD..
 }
 
 stage_surveys() {
-    local tables=$build/tables.bin seed
+    local tables=$build/survey.bin seed
     rt check tablecheck
     for seed in 1 2 3 4 5 6 7 8; do
         run "$build/made" tables "$seed" >"$tables"
@@ -154,14 +221,36 @@ stage_surveys() {
     echo "surveys: equal output on 8 tables, on odd words and on tables of wrong size"
 }
 
-stages=("$@")
-[ $# -gt 0 ] || stages=(plain self library bench desks surveys)
+# Runs PROGRAM on INPUT and counts it; it is equal if it writes what WANTED has.
+vector() { # PROGRAM INPUT WANTED
+    all=$((all + 1))
+    if run "target/bin/$1" <"$2" | cmp -s - "$3"; then equal=$((equal + 1)); else echo "$2: not equal"; fi
+}
+
+stage_vectors() { # FOLDER
+    local all=0 equal=0 file number
+    rt check desk tablecheck
+    for file in "$1"/desk-*.in; do vector desk "$file" "${file%.in}.out"; done
+    for file in "$1"/tables-*.bin; do
+        number=${file##*/tables-}
+        vector tablecheck "$file" "$1/survey-${number%.bin}.out"
+    done
+    echo "vectors: $equal of $all equal"
+    [ "$equal" = "$all" ]
+}
+
+[ $# -gt 0 ] || set -- plain self library desks surveys bench
 build_plain
-for stage in "${stages[@]}"; do
-    case $stage in
-    plain | self | library | bench | desks | surveys) ;;
-    *) echo "run.sh: no stage $stage" >&2; exit 2 ;;
+while [ $# -gt 0 ]; do
+    echo "== $1"
+    case $1 in
+    plain | self | library | bench | baseline | desks | surveys) "stage_$1" ;;
+    vectors)
+        stage_vectors "$(cd "$from" && cd "${2:?a folder is wanted}" && pwd)"
+        shift
+        ;;
+    unproved) unproved=yes ;;
+    *) echo "run.sh: no stage $1" >&2; exit 2 ;;
     esac
-    echo "== $stage"
-    "stage_$stage"
+    shift
 done

@@ -2,6 +2,10 @@
 
    Every slice is a pointer and a length. Nothing is kept between calls but the bytes that are lent.
 
+   The slices lent to one call must not overlap, not even those that it only reads: what is promised of each is promised of slices that
+   lie apart. A pointer needs no alignment. Through the pointer of an empty slice (length 0) nothing is read or written, so it may be
+   any, NULL too: the empty packet may be given as NULL, 0.
+
    state, 32 bytes, words high byte first: 0 mode; 1 mode changes allowed (0 or 1); 2-3 STATUS_PC; 4-5 received; 6-7 failed;
    8 failed code; 9 failed number; 10 abort code; 11-14 log; 15 selection, 255 none; 16 status sequence, 255 none; 17 place;
    18 line list; 19-20 exposures; 21-22 mirror; 23 running (0 or 1); 24 entering (0 or 1); 25 open raster's place, 255 none;

@@ -1,6 +1,7 @@
 // The desk: packets and steps from standard input, answers and events to standard output. Text waits to be written until a piece of
 // input is worked off, or until it has no room left; so a person sees each answer before the next read.
-ghost use Prim.Native.Nat.{_<_};
+ghost use Prim.Native.Nat.{_<_, _≤_};
+ghost use lib.ListN.{length};
 use libc::STDIN_FILENO;
 use libc::STDOUT_FILENO;
 use line::Line;
@@ -13,17 +14,26 @@ const ANSWER: usize = 33000;
 // More text than one step shows.
 const EVENT: usize = 40;
 
-// The unit, the bytes kept of a line that is not whole yet, and the bytes of text that wait.
+// More bytes than a packet's line or a STEP has.
+const TOO_LONG: usize = 512;
+
+// The unit, and the bytes of text that wait.
 struct Desk {
     unit: Unit,
-    kept: usize,
     at: usize,
 }
 
-// The desk after a piece of input, and whether there was one.
-struct Read {
-    desk: Desk,
+// How many bytes a piece of input has, how many of them are whole lines, and whether there is more input.
+struct Piece {
+    count: usize,
+    whole: usize,
     more: bool,
+}
+
+// Writes out the text that waits; the next goes to the start.
+fn write_out(text: &[u8], at: usize) -> usize {
+    io::write_all(STDOUT_FILENO, octets::part(text, 0, at));
+    0
 }
 
 // Where the next text goes, with room for n bytes: what waits is written out where there is less.
@@ -33,8 +43,7 @@ fn room(text: &[u8], at: usize, n: usize) -> usize {
             return at;
         }
     }
-    io::write_all(STDOUT_FILENO, octets::part(text, 0, at));
-    0
+    write_out(text, at)
 }
 
 // The bytes that answer a packet, where there are any: a status block or a dump.
@@ -62,7 +71,7 @@ fn take_packet(
     let after = line::put_answer(text, from, bc1, answer.code);
     let at = put_reply(text, after, bc1, octets::part(out, 0, answer.length));
     let unit = answer.unit;
-    Desk { unit, kept: 0, at }
+    Desk { unit, at }
 }
 
 // One step, and its event shown. The desk's tables and state are never refused.
@@ -75,7 +84,7 @@ fn take_step(desk: Desk, seqs: &[u8], lists: &[u8], text: &mut [u8]) -> Desk {
         Outcome::Denied(_) => from,
         Outcome::Saw(event) => line::put_event(text, from, event, unit.watch.exposures),
     };
-    Desk { unit, kept: 0, at }
+    Desk { unit, at }
 }
 
 // So many steps.
@@ -93,7 +102,7 @@ fn take_steps(start: Desk, seqs: &[u8], lists: &[u8], n: u16, text: &mut [u8]) -
 fn take_bad(desk: Desk, text: &mut [u8]) -> Desk {
     let unit = desk.unit;
     let at = line::put_bad(text, room(text, desk.at, EVENT));
-    Desk { unit, kept: 0, at }
+    Desk { unit, at }
 }
 
 // A line: a packet, steps, or BAD, which reaches the unit in no way.
@@ -113,114 +122,89 @@ fn take_line(
     }
 }
 
-// Keeps part of a line after what is kept of it. Past the room for a line it is full, and BAD whatever comes.
-fn keep(held: &mut [u8], kept: usize, part: &[u8]) -> usize {
-    if held.len() < kept {
-        return held.len();
+// The place after the last newline of so many bytes.
+fn whole(piece: &[u8], count: usize) -> usize {
+    let typed = octets::part(piece, 0, count);
+    let mut end = typed.len();
+    while 0 < end {
+        if typed[end - 1] == b'\n' {
+            return end;
+        }
+        end -= 1;
     }
-    if held.len() - kept < part.len() {
-        return held.len();
-    }
-    bytes::copy(part, &mut held[kept..]);
-    kept + part.len()
+    0
 }
 
-// A part of a line: kept, or, where the line ends with it, the line taken.
-fn take_part(
+// All lines of what was typed, and their answers shown.
+fn take_lines(
     start: Desk,
     seqs: &mut [u8],
     lists: &mut [u8],
     out: &mut [u8],
-    held: &mut [u8],
-    part: &[u8],
-    ends: bool,
-    text: &mut [u8],
-) -> Desk {
-    let mut desk = start;
-    if !ends {
-        desk.kept = keep(held, start.kept, part);
-        return desk;
-    }
-    if start.kept == 0 {
-        return take_line(desk, seqs, lists, out, part, text);
-    }
-    let kept = keep(held, start.kept, part);
-    take_line(desk, seqs, lists, out, octets::part(held, 0, kept), text)
-}
-
-// All lines that end in a piece of input; what stands after the last newline is kept.
-fn take_piece(
-    start: Desk,
-    seqs: &mut [u8],
-    lists: &mut [u8],
-    out: &mut [u8],
-    held: &mut [u8],
-    piece: &[u8],
+    typed: &[u8],
     text: &mut [u8],
 ) -> Desk {
     let mut desk = start;
     let mut from = 0;
-    while from < piece.len() {
-        let end = bytes::scan::find(piece, from, piece.len(), b'\n');
+    while from < typed.len() {
+        let end = bytes::scan::find(typed, from, typed.len(), b'\n');
         let next = end + 1;
-        let part = octets::part(piece, from, end - from);
-        desk = take_part(desk, seqs, lists, out, held, part, end < piece.len(), text);
+        let part = octets::part(typed, from, end - from);
+        desk = take_line(desk, seqs, lists, out, part, text);
         from = next;
     }
+    desk.at = write_out(text, desk.at);
     desk
 }
 
 // Reads a piece of input: so many bytes, none where it has ended.
-fn read_some(piece: &mut [u8]) -> usize {
+fn read_some(piece: &mut [u8]) -> usize
+    ensures { λ r. ⌜ r ≤ length (now (piece .entry)) ⌝ }
+{
     io::count(libc::read(STDIN_FILENO, piece), piece)
 }
 
-// Works off a piece of input and shows its answers; no piece is left where the input has ended.
-fn read_piece(
-    start: Desk,
-    seqs: &mut [u8],
-    lists: &mut [u8],
-    out: &mut [u8],
-    held: &mut [u8],
-    piece: &mut [u8],
-    text: &mut [u8],
-) -> Read {
-    let n = read_some(piece);
-    let mut desk = take_piece(
-        start,
-        seqs,
-        lists,
-        out,
-        held,
-        octets::part(piece, 0, n),
-        text,
-    );
-    io::write_all(STDOUT_FILENO, octets::part(text, 0, desk.at));
-    desk.at = 0;
-    Read { desk, more: 0 < n }
+// Reads on behind what is kept, and answers where the bytes end.
+fn read_behind(piece: &mut [u8], kept: usize) -> usize {
+    if piece.len() < kept {
+        return kept;
+    }
+    kept + read_some(&mut piece[kept..])
 }
 
-// A last line without a newline.
-fn finish(
-    desk: Desk,
-    seqs: &mut [u8],
-    lists: &mut [u8],
-    out: &mut [u8],
-    held: &[u8],
-    text: &mut [u8],
-) {
-    if desk.kept == 0 {
-        return;
+// Keeps the line that is not whole yet: moves it to the front. No more of it is kept than makes it too long, so that it is BAD
+// whatever comes.
+fn keep(piece: &mut [u8], last: Piece) -> usize {
+    let mut block = [0u8; TOO_LONG];
+    let rest = octets::part(octets::part(piece, 0, last.count), last.whole, TOO_LONG);
+    let kept = rest.len();
+    memory::write(&mut block, 0, rest);
+    memory::write(piece, 0, octets::part(&block, 0, kept));
+    kept
+}
+
+// The next piece of input, behind what is kept of the last one. Where the input has ended a newline closes the line that is kept.
+fn next_piece(piece: &mut [u8], last: Piece) -> Piece {
+    let kept = keep(piece, last);
+    let count = read_behind(piece, kept);
+    if count != kept {
+        let whole = whole(piece, count);
+        return Piece {
+            count,
+            whole,
+            more: true,
+        };
     }
-    let last = take_line(
-        desk,
-        seqs,
-        lists,
-        out,
-        octets::part(held, 0, desk.kept),
-        text,
-    );
-    io::write_all(STDOUT_FILENO, octets::part(text, 0, last.at));
+    let end = if kept == 0 {
+        0
+    } else {
+        line::put(piece, kept, b'\n')
+    };
+    Piece {
+        count: end,
+        whole: end,
+        more: false,
+    }
 }
 
 // The turns left after one: none where the input has ended.
@@ -231,44 +215,29 @@ fn turns_left(more: bool, turns: u64) -> u64
     if more { turns - 1 } else { 0 }
 }
 
-// Every piece of input, and last a line without a newline. A proved loop has to end, so the turns are counted down from a number
-// that no input uses up.
-fn run(
-    seqs: &mut [u8],
-    lists: &mut [u8],
-    out: &mut [u8],
-    held: &mut [u8],
-    piece: &mut [u8],
-    text: &mut [u8],
-) {
+// Every piece of input. A proved loop has to end, so the turns are counted down from a number that no input uses up.
+fn run(seqs: &mut [u8], lists: &mut [u8], out: &mut [u8], piece: &mut [u8], text: &mut [u8]) {
     let unit = Unit::power_on();
-    let mut desk = Desk {
-        unit,
-        kept: 0,
-        at: 0,
+    let mut desk = Desk { unit, at: 0 };
+    let mut held = Piece {
+        count: 0,
+        whole: 0,
+        more: true,
     };
     let mut turns = u64::MAX;
     while 0 < turns {
-        let read = read_piece(desk, seqs, lists, out, held, piece, text);
-        desk = read.desk;
-        turns = turns_left(read.more, turns);
+        held = next_piece(piece, held);
+        let typed = octets::part(piece, 0, held.whole);
+        desk = take_lines(desk, seqs, lists, out, typed, text);
+        turns = turns_left(held.more, turns);
     }
-    finish(desk, seqs, lists, out, held, text);
 }
 
 fn main() {
-    let mut seqs = [0u8; 16384];
-    let mut lists = [0u8; 7872];
-    let mut out = [0u8; 16384];
-    let mut held = [0u8; 512];
+    let mut seqs = [0u8; Unit::SEQUENCE_TABLE];
+    let mut lists = [0u8; Unit::LINE_LIST_TABLE];
+    let mut out = [0u8; Unit::SEQUENCE_TABLE];
     let mut piece = io::large_buffer();
     let mut text = io::large_buffer();
-    run(
-        &mut seqs,
-        &mut lists,
-        &mut out,
-        &mut held,
-        &mut piece,
-        &mut text,
-    );
+    run(&mut seqs, &mut lists, &mut out, &mut piece, &mut text);
 }

@@ -1,17 +1,18 @@
 -- Laws of the calls over the definitions alone: the bytes hold the unit and nothing else, and what a call leaves as it was. Assumes nothing.
-use Prim.Native.Nat.{ℕ, zero, suc, _+_, _*_, _/_, _%_, _-_, _≤_, _<_}
+use Prim.Native.Nat.{ℕ, zero, suc, _+_, _-_, _≤_, _<_}
 use native.Mathlib.Omega.{arith}
-use mathlib.Core.Path.{_≡_, refl, sym, ap, subst, _∙_}
-use mathlib.Core.Bool.{Bool, true, false, cond, not, _||_, true≢false}
-use mathlib.Core.List.{List, [], _∷_, _++_}
+use mathlib.Core.Path.{_≡_, refl, sym, ap, ap₂, _∙_}
+use mathlib.Core.Bool.{Bool, true, false, cond, not}
+use mathlib.Core.List.{List}
 use mathlib.Core.Logic.{_⊎_, inl, inr}
-use lib.Dec.{ltb, leb, eqb}
-use lib.ListN.{length, getD, take, drop, drop-of-length-le}
-use lib.Seq.{drop-cons, getD-take, getD-drop}
-use borrow.Author.Tests.{ltb-false, eqb-true, not-false, eq-eqb, ne-eqb, lt-leb, le-leb}
-use Rattle.octets.specs.Bytes.{byteAt, wordAt}
+use lib.Dec.{eqb}
+use lib.ListN.{length, getD, take, drop}
+use lib.Seq.{getD-take, getD-drop}
+use borrow.Author.Tests.{eqb-true, not-false, ne-eqb, lt-leb, le-leb}
+use Rattle.octets.specs.Layout.{AllFit}
 use Rattle.octets.specs.Rows.{firstCode}
 use Rattle.octets.proofs.Laws.{none-holds}
+use Rattle.octets.proofs.LayoutLaws.{Octets, laid-reads, reads-laid}
 use Rattle.memory.specs.Memory.{tablesWrong}
 use Rattle.sequence.specs.Env.{envOf}
 use Rattle.runner.specs.declared.Runner.{Runner}
@@ -19,8 +20,9 @@ use Rattle.runner.specs.declared.Event.{Event}
 use Rattle.runner.specs.declared.Event.the-variants.{Idle}
 use Rattle.runner.specs.declared.Stepped.{Stepped}
 use Rattle.runner.specs.Step.{to, stepOf}
+use Rattle.runner.specs.Moves.{moves}
 use Rattle.runner.proofs.Laws.{step-idle}
-use Rattle.keel.proofs.Idle.{idle-same}
+use Rattle.runner.proofs.Moves.{Moved, step-moves}
 use Rattle.unit.specs.declared.Unit.{Unit}
 use Rattle.unit.specs.declared.Ledger.{Ledger}
 use Rattle.unit.specs.declared.Watch.{Watch}
@@ -28,89 +30,22 @@ use Rattle.unit.specs.declared.Outcome.the-variants.{Denied, Saw}
 use Rattle.unit.specs.declared.UnitStep.{UnitStep}
 use Rattle.unit.specs.Packet.{lentWrong, codeOf}
 use Rattle.unit.specs.Answer.{unitAfter}
-use Rattle.unit.proofs.Laws.{Kept, refused-keeps}
-use Rattle.unit.specs.Step.{stepRows, stepped, taken, unitStepBy, unitStep}
-use Rattle.unit.specs.State.{withLedger, withWatch, withRunner, outOfRange}
-use Rattle.keel.specs.State.{isSet, flag, unitOf, stateOf, flagsWrong}
-use Rattle.keel.specs.Parts.{controlOver, ledgerOver, runOver}
+use Rattle.unit.proofs.Laws.{refused-keeps}
+use Rattle.unit.specs.Step.{watched, stepRows, stepped, taken, unitStepBy, unitStep}
+use Rattle.unit.specs.State.{powerOn, withLedger, withWatch, withRunner, outOfRange}
+use Rattle.keel.specs.State.{stateFields, stateOf, unitFrom, unitOf, flagsWrong}
 use Rattle.keel.specs.Calls.{stateSized, heldRows, heldCode, packetCode, stateAfter, keptSeqs, keptLists, keptOut, heldStep, stateBy, stateStepped}
 
 -- ── the bytes of a state
--- n elements of a list from the place i on, by their places
-abbrev spell : List ℕ → ℕ → ℕ → List ℕ
-spell s i zero = []
-spell s i (suc n) = getD s i 0 ∷ spell s (suc i) n
-
-spelled : (s : List ℕ) (i n : ℕ) → length s ≡ i + n → drop i s ≡ spell s i n
-spelled s i zero h = drop-of-length-le s {i = i} (omega arith)
-spelled s i (suc n) h = drop-cons s i 0 (omega arith) ∙ ap (λ (l : List ℕ). getD s i 0 ∷ l) (spelled s (suc i) n (omega arith))
-
--- every element is a byte
-abbrev pub Octets : List ℕ → Type 0
-Octets s = (i : ℕ) → getD s i 0 < 256
-
-module _ (s : List ℕ) (o : Octets s) (i : ℕ) where
-  high-byte : wordAt s i / 256 % 256 ≡ byteAt s i
-  high-byte = omega (arith, o i, o (i + 1))
-
-  low-byte : wordAt s i % 256 ≡ byteAt s (i + 1)
-  low-byte = omega (arith, o (i + 1))
-
-flag-byte : (n : ℕ) → n ≤ 1 → flag (isSet n) ≡ n
-flag-byte zero h = refl
-flag-byte (suc zero) h = refl
-flag-byte (suc (suc n)) h = absurd (omega arith)
-
-neither : (a b : Bool) → (a || b) ≡ false → (a ≡ false) × (b ≡ false)
-neither true b e = absurd (true≢false e)
-neither false b e = (refl, e)
-
-flags-low : (s : List ℕ) → flagsWrong s ≡ false → (byteAt s 1 ≤ 1) × ((byteAt s 23 ≤ 1) × (byteAt s 24 ≤ 1))
-unfolding flagsWrong
-flags-low s h =
-    let (a, r) = neither (ltb 1 (byteAt s 1)) (ltb 1 (byteAt s 23) || ltb 1 (byteAt s 24)) h in
-    let (b, d) = neither (ltb 1 (byteAt s 23)) (ltb 1 (byteAt s 24)) r in
-    (ltb-false 1 (byteAt s 1) a, (ltb-false 1 (byteAt s 23) b, ltb-false 1 (byteAt s 24) d))
-
--- the unit that the bytes hold has these bytes again
+-- saving what was loaded gives the bytes back
 pub load-save : (s : List ℕ) → length s ≡ 32 → Octets s → flagsWrong s ≡ false → stateOf (unitOf s) ≡ s
+unfolding unitOf stateOf flagsWrong
+load-save s h o f = laid-reads (stateFields powerOn) s (rw h tt) o f
+
+-- loading what was saved gives the unit back
+pub save-load : (u : Unit) → AllFit (stateFields u) → unitOf (stateOf u) ≡ u
 unfolding unitOf stateOf
-load-save s h o f =
-    let (a, (b, d)) = flags-low s f in
-    simp (
-      flag-byte (byteAt s 1) a,
-      flag-byte (byteAt s 23) b,
-      flag-byte (byteAt s 24) d,
-      high-byte s o 2,
-      low-byte s o 2,
-      high-byte s o 4,
-      low-byte s o 4,
-      high-byte s o 6,
-      low-byte s o 6,
-      high-byte s o 19,
-      low-byte s o 19,
-      high-byte s o 21,
-      low-byte s o 21,
-      high-byte s o 27,
-      low-byte s o 27,
-      high-byte s o 29,
-      low-byte s o 29,
-    ) (sym (spelled s 0 32 h))
-
--- the parts of a unit written over any bytes of a state's size are its state
-pub all-over : (s : List ℕ) (u : Unit) → length s ≡ 32 → runOver (u .watch) (u .runner) (ledgerOver (u .ledger) (controlOver (u .control) s)) ≡ stateOf u
-unfolding stateOf controlOver ledgerOver runOver
-all-over s u h =
-    subst (λ (l : List ℕ). runOver (u .watch) (u .runner) (ledgerOver (u .ledger) (controlOver (u .control) l)) ≡ stateOf u) (sym (spelled s 0 32 h)) refl
-
--- a part written over a unit's state
-pub ledger-over : (l : Ledger) (u : Unit) → ledgerOver l (stateOf u) ≡ stateOf (withLedger l u)
-unfolding stateOf ledgerOver
-ledger-over l u = refl
-
-pub run-over : (w : Watch) (r : Runner) (u : Unit) → runOver w r (stateOf u) ≡ stateOf (withWatch w (withRunner r u))
-unfolding stateOf runOver
-run-over w r u = refl
+save-load u h = ap unitFrom (reads-laid (stateFields u) 32 tt h)
 
 -- ── what the bytes of the state are refused for
 abbrev heldBy : Bool → Bool → Bool → ℕ
@@ -134,15 +69,23 @@ held-passed lent s h =
     (eqb-true (length s) 32 (not-false (stateSized s) (n .0)), (n .1 .1 .0, n .1 .0))
 
 -- ── a step
--- a step leaves what commands set and what a refusal may change
-kept-by : (t : Bool) (u : Unit) (r : Stepped) (code : ℕ) → let v : UnitStep = cond t (taken u r) (stepped (Denied code) u) in (v .unit .ledger ≡ u .ledger) × (v .unit .control ≡ u .control)
-unfolding taken
-kept-by true u r code = (refl, refl)
-kept-by false u r code = (refl, refl)
+-- a step that shows an event changes what the event moves in the run and in what the status takes from it
+pub record Took (u : Unit) (r : UnitStep) (e : Event) : Type 0 where
+  pub part : withWatch (r .unit .watch) (withRunner (r .unit .runner) u) ≡ r .unit
+  pub watch : r .unit .watch ≡ watched e (u .watch)
+  pub runner : r .unit .runner ≡ moves e (r .unit .runner) (u .runner)
 
-pub step-keeps : (u : Unit) (seqs lists : List ℕ) → (unitStep u seqs lists .unit .ledger ≡ u .ledger) × (unitStep u seqs lists .unit .control ≡ u .control)
+took-by : (t : Bool) (u : Unit) (x : Stepped) (code : ℕ) (e : Event) → Moved (u .runner) x
+    → cond t (taken u x) (stepped (Denied code) u) .outcome ≡ Saw e → Took u (cond t (taken u x) (stepped (Denied code) u)) e
+unfolding taken
+took-by true u x code e m o = let f : x .event ≡ e = cc in record { part = refl; watch = ap (λ (v : Event). watched v (u .watch)) f; runner = rw (← f) m }
+took-by false u x code e m o = let z : _≡_ {A = ℕ} 0 1 = cc in absurd (omega arith)
+
+pub took : (u : Unit) (seqs lists : List ℕ) (e : Event) → unitStep u seqs lists .outcome ≡ Saw e → Took u (unitStep u seqs lists) e
 unfolding unitStep
-step-keeps u seqs lists = kept-by (eqb (firstCode (stepRows u seqs lists)) 0) u (stepOf (envOf lists) seqs (u .runner)) (firstCode (stepRows u seqs lists))
+took u seqs lists e =
+    let code = firstCode (stepRows u seqs lists) in
+    took-by (eqb code 0) u (stepOf (envOf lists) seqs (u .runner)) code e (step-moves (u .runner) (envOf lists) seqs)
 
 rest-by : (t : Bool) (u : Unit) → unitStepBy (cond t 17 0) u (to Idle (u .runner)) ≡ cond t (stepped (Denied 17) u) (stepped (Saw Idle) u)
 unfolding taken
@@ -155,19 +98,10 @@ unfolding stepRows unitStep
 at-rest u seqs lists t n = simp (t, ← step-idle (envOf lists) seqs (u .runner) n) (rest-by (outOfRange u) u)
 
 -- a step that shows IDLE leaves the unit as it was
-shown-by : (t : Bool) (u : Unit) (r : Stepped) (code : ℕ) → (r .event ≡ Idle → r .runner ≡ u .runner) → cond t (taken u r) (stepped (Denied code) u) .outcome ≡ Saw Idle → cond t (taken u r) (stepped (Denied code) u) .unit ≡ u
-unfolding taken
-shown-by true u r code k o =
-    let e : r .event ≡ Idle = cc in
-    rw e (λ i. record { ledger = u .ledger; control = u .control; watch = u .watch; runner = k e i })
-shown-by false u r code k o = refl
-
 shown-idle : (u : Unit) (seqs lists : List ℕ) → unitStep u seqs lists .outcome ≡ Saw Idle → unitStep u seqs lists .unit ≡ u
-unfolding unitStep
 shown-idle u seqs lists o =
-    let code = firstCode (stepRows u seqs lists) in
-    let r = stepOf (envOf lists) seqs (u .runner) in
-    shown-by (eqb code 0) u r code (λ e. ap (λ (x : Stepped). x .runner) (idle-same (envOf lists) seqs (u .runner) e)) o
+    let k = took u seqs lists Idle o in
+    sym (k .part) ∙ ap₂ (λ (w : Watch) (r : Runner). withWatch w (withRunner r u)) (k .watch) (k .runner)
 
 idle-left : (t : Bool) (held : ℕ) (s : List ℕ) (u : Unit) (r : UnitStep)
     → (t ≡ true → r .outcome ≡ Saw Idle → stateOf (r .unit) ≡ s)

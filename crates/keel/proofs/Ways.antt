@@ -1,37 +1,44 @@
 -- A law for each way out of the calls, with the callees' equations as premises. Assumes nothing.
-use Prim.Native.Nat.{ℕ, _+_, _*_, _≤_, _<_}
+use Prim.Native.Nat.{ℕ, _+_, _*_, _≤_}
 use native.Mathlib.Omega.{arith}
 use mathlib.Core.Path.{_≡_, refl, sym, ap, _∙_}
 use mathlib.Core.Bool.{Bool, true, false, cond}
 use mathlib.Core.List.{List, [], _∷_, _++_, append-nil, append-assoc}
 use lib.Dec.{leb, eqb}
-use lib.ListN.{length, take, drop, length-append, length-drop, drop-of-length-le}
+use lib.ListN.{length, set, drop, length-append, length-drop, drop-of-length-le}
 use lib.Seq.{take-append-seam, drop-append-add}
-use borrow.Author.Tests.{le-leb, lt-leb, eq-eqb, ne-eqb}
+use borrow.Author.Tests.{leb-true, le-leb, ne-eqb}
+use Rattle.octets.specs.Bytes.{byteAt, two, eight}
+use Rattle.octets.proofs.LayoutLaws.{Octets}
 use Rattle.memory.specs.Memory.{tablesWrong, written}
 use Rattle.runner.specs.declared.Event.{Event}
 use Rattle.runner.specs.declared.Event.the-variants.{Idle}
 use Rattle.runner.specs.Events.{shownAs}
 use Rattle.survey.specs.declared.Report.{Report}
-use Rattle.survey.specs.Chain.{Told, checkOf}
-use Rattle.survey.specs.Report.{endingShown, padded, reportOf}
+use Rattle.survey.specs.Chain.{Told}
+use Rattle.survey.specs.Report.{endingShown, reportOf}
 use Rattle.unit.specs.declared.Unit.{Unit}
 use Rattle.unit.specs.declared.Kind.{Kind}
 use Rattle.unit.specs.declared.Kind.the-variants.{Status, Dump, Allow, Mode, Clear, Select, Uplink, Foreign, Unheard}
 use Rattle.unit.specs.declared.Answer.{Answer}
 use Rattle.unit.specs.declared.Outcome.the-variants.{Denied, Saw}
 use Rattle.unit.specs.declared.UnitStep.{UnitStep}
-use Rattle.unit.specs.State.{withLedger, withWatch, withRunner, outOfRange}
+use Rattle.unit.specs.State.{powerOn, outOfRange, moded}
 use Rattle.unit.specs.Packet.{lentWrong, codeOf}
-use Rattle.unit.specs.Status.{statusOf, two}
-use Rattle.unit.specs.Answer.{reply, commandOf, obeyedSeqs, obeyedLists, unitAfter, replyOf, answerOf, seqsAfter, listsAfter, outAfter}
+use Rattle.unit.specs.Status.{statusOf}
+use Rattle.unit.specs.Answer.{reply, commandOf, obeyedUnit, refusedUnit, unitAfter, replyOf, answerOf, seqsAfter, listsAfter, outAfter}
 use Rattle.unit.specs.Step.{stepped, unitStep}
 use Rattle.unit.proofs.Ways.{dump-short}
-use Rattle.keel.specs.State.{unitOf, stateOf, flagsWrong}
-use Rattle.keel.specs.Parts.{ledgerOver, runOver}
-use Rattle.keel.specs.Calls.{stateSized, heldRows, heldCode, packetCode, packetReply, packetAnswer, stateAfter, keptSeqs, keptLists, keptOut, packed, deniedAs, heldStep, stepAnswer, stateStepped}
-use Rattle.keel.specs.Report.{eight, reportBytes}
-use Rattle.keel.proofs.Laws.{Octets, load-save, ledger-over, run-over, held-high, held-passed, step-keeps, at-rest, refused-unit}
+use Rattle.keel.specs.State.{unitOf, stateOf}
+use Rattle.keel.specs.Parts.{logOver, ledgerOver, placeOver, runOver, StepWritten, AnswerWritten}
+use Rattle.keel.specs.Calls.{heldCode, packetCode, packetReply, packetAnswer, stateAfter, keptSeqs, keptLists, keptOut, packed, deniedAs, heldStep, stepAnswer, stateStepped}
+use Rattle.keel.specs.Report.{reportBytes}
+use Rattle.keel.proofs.Laws.{load-save, held-high, held-passed, Took, took, at-rest, refused-unit}
+
+-- what holds of both holds of either
+either : {A : Type 0} (P : A → Type 0) (t : Bool) (x y : A) → P x → P y → P (cond t x y)
+either P true x y h k = h
+either P false x y h k = k
 
 -- ── an answer's length
 reply-short : (k : Kind) (u : Unit) (time : ℕ) (seqs lists p : List ℕ) → length (reply k u time seqs lists p) ≤ 16384
@@ -46,15 +53,11 @@ reply-short Uplink u time seqs lists p = omega arith
 reply-short Foreign u time seqs lists p = omega arith
 reply-short Unheard u time seqs lists p = omega arith
 
-either-short : (t : Bool) (a b : List ℕ) (n : ℕ) → length a ≤ n → length b ≤ n → length (cond t a b) ≤ n
-either-short true a b n h k = h
-either-short false a b n h k = k
-
 -- what answers a packet is never longer than the least output that is lent
 pub short : (u : Unit) (time : ℕ) (seqs lists out p : List ℕ) (a : Answer) → a ≡ answerOf u time seqs lists out p → a .length ≤ 16384
 unfolding replyOf answerOf
 short u time seqs lists out p a e =
-    rw e (either-short (eqb (codeOf u seqs lists out p) 0) (reply (commandOf p) u time seqs lists p) [] 16384 (reply-short (commandOf p) u time seqs lists p) (omega arith))
+    rw e (either (λ (l : List ℕ). length l ≤ 16384) (eqb (codeOf u seqs lists out p) 0) (reply (commandOf p) u time seqs lists p) [] (reply-short (commandOf p) u time seqs lists p) (omega arith))
 
 -- ── a packet
 twice : {A : Type 0} (t : Bool) (a b : A) → cond t (cond t a b) b ≡ cond t a b
@@ -65,6 +68,35 @@ twice false a b = refl
 over : (t : Bool) (r out : List ℕ) → cond t (cond t r [] ++ drop (length (cond t r [])) out) out ≡ cond t r [] ++ drop (length (cond t r [])) out
 over true r out = refl
 over false r out = refl
+
+decided : (t : Bool) (x a b : List ℕ) → (t ≡ true → x ≡ a) → x ≡ b → x ≡ cond t a b
+decided true x a b f g = f refl
+decided false x a b f g = g
+
+module _ (u : Unit) (time : ℕ) (seqs lists out p : List ℕ) (a : Answer) (e : a ≡ answerOf u time seqs lists out p) where
+  -- 16 and 17 leave the unit as it was
+  pub answer-kept : 16 ≤ a .code → a .unit ≡ u
+  unfolding answerOf unitAfter refusedUnit
+  answer-kept h = let k = rw e at h in rw e (simp (ne-eqb (codeOf u seqs lists out p) 0 (λ z. omega arith), le-leb 16 (codeOf u seqs lists out p) k))
+
+  -- a refused packet: the ledger alone is written
+  pub answer-refused : (s : List ℕ) → s ≡ stateOf u → (a .code ≡ 0 → ⊥) → ledgerOver (a .unit .ledger) s ≡ stateOf (a .unit)
+  unfolding stateOf answerOf
+  answer-refused s same n =
+      let part = refused-unit u seqs lists out p (λ z. n (ap (λ (x : Answer). x .code) e ∙ z)) in
+      rw (same, e) (ap stateOf part)
+
+  pub answer-obeyed : a .code ≡ 0 → a .unit ≡ obeyedUnit (commandOf p) p u
+  unfolding answerOf unitAfter
+  answer-obeyed z = let k = rw e at z in rw e (simp k)
+
+-- what a mode change writes, whether it starts, stops or neither
+pub mode-written : (p : List ℕ) (u : Unit) → let v = obeyedUnit Mode p u in
+    runOver (v .watch) (v .runner) (placeOver (v .runner) (set (logOver (v .ledger) (stateOf u)) 0 (v .control .mode))) ≡ stateOf v
+unfolding stateOf obeyedUnit moded
+mode-written p u =
+    let P : Unit → Type 0 = λ v. runOver (v .watch) (v .runner) (placeOver (v .runner) (set (logOver (v .ledger) (stateOf u)) 0 (v .control .mode))) ≡ stateOf v in
+    either P (eqb (byteAt p 1) 3) _ _ refl (either P (u .runner .running) _ _ refl refl)
 
 module _ (s : List ℕ) (time : ℕ) (seqs lists out p : List ℕ) where
   abbrev pub Answered : ℕ → List ℕ → List ℕ → List ℕ → List ℕ → Type 0
@@ -88,26 +120,17 @@ module _ (s : List ℕ) (time : ℕ) (seqs lists out p : List ℕ) where
     -- the unit's answer stands, and its state where it is not refused with 16 or 17
     module _ (none : held ≡ 0) (u : Unit) (read : u ≡ unitOf s) (a : Answer) (seqs' lists' out' : List ℕ)
         (e : (a ≡ answerOf u time seqs lists out p) × ((seqs' ≡ seqsAfter u seqs lists out p) × ((lists' ≡ listsAfter u seqs lists out p) × (out' ≡ outAfter u time seqs lists out p)))) where
-      answered : (s' : List ℕ) → s' ≡ cond (leb 16 (a .code)) s (stateOf (a .unit)) → Answered (a .code + 256 * a .length) s' seqs' lists' out'
+      stands : (s' : List ℕ) → s' ≡ cond (leb 16 (a .code)) s (stateOf (a .unit)) → Answered (a .code + 256 * a .length) s' seqs' lists' out'
       unfolding packetCode packetReply packetAnswer stateAfter keptSeqs keptLists keptOut seqsAfter listsAfter outAfter replyOf answerOf
-      answered s' f =
+      stands s' f =
           simp (← holds, none, ← read, f, e .1 .0, e .1 .1 .0, e .1 .1 .1, e .0, twice, over) (refl, (refl, (refl, (refl, refl))))
 
-      pub stays : 16 ≤ a .code → Answered (a .code + 256 * a .length) s seqs' lists' out'
-      stays h = answered s (simp (le-leb 16 (a .code) h))
-
-      pub moves : (s' : List ℕ) → a .code < 16 → s' ≡ stateOf (a .unit) → Answered (a .code + 256 * a .length) s' seqs' lists' out'
-      moves s' h f = answered s' (simp (lt-leb 16 (a .code) h) f)
-
-      -- a refused packet: the ledger alone is written
-      pub counts : (s' : List ℕ) → a .code < 16 → (a .code ≡ 0 → ⊥) → Octets s → s' ≡ ledgerOver (a .unit .ledger) s → Answered (a .code + 256 * a .length) s' seqs' lists' out'
-      unfolding answerOf
-      counts s' h n o f =
-          let v = unitAfter u seqs lists out p in
+      pub answered : (s' : List ℕ) → Octets s → AnswerWritten a p s s' → Answered (a .code + 256 * a .length) s' seqs' lists' out'
+      answered s' o w =
           let (sized, (flags, fits)) = held-passed lent s (sym told ∙ none) in
           let same : s ≡ stateOf u = sym (ap stateOf read ∙ load-save s sized o flags) in
-          let part = refused-unit u seqs lists out p (λ z. n (ap (λ (x : Answer). x .code) (e .0) ∙ z)) in
-          moves s' h (f ∙ simp (e .0) (ap (ledgerOver (v .ledger)) same ∙ ledger-over (v .ledger) u ∙ ap stateOf part))
+          let f = w u time seqs lists out same (e .0) in
+          stands s' (decided (leb 16 (a .code)) s' s (stateOf (a .unit)) (λ h. f ∙ ap stateOf (answer-kept u time seqs lists out p a (e .0) (leb-true 16 (a .code) h)) ∙ sym same) f)
 
 -- ── a step
 module _ (s seqs lists : List ℕ) where
@@ -146,13 +169,16 @@ module _ (s seqs lists : List ℕ) where
         pub idles : Octets s → outOfRange u ≡ false → Stepped 0 s
         idles octets h = sees (stepped (Saw Idle) u) (sym (simp h at rests)) Idle s refl (same octets)
 
-      -- a unit that runs: the run alone is written
-      pub moves-on : (r : UnitStep) → r ≡ unitStep u seqs lists → Octets s → (event : Event) → r .outcome ≡ Saw event → (s' : List ℕ) → s' ≡ runOver (r .unit .watch) (r .unit .runner) s → Stepped (packed (shownAs (r .unit .watch .exposures) event)) s'
+      -- a unit that runs: what the event moves is written
+      pub moves-on : (r : UnitStep) → r ≡ unitStep u seqs lists → Octets s → (event : Event) → r .outcome ≡ Saw event → (s' : List ℕ) → StepWritten event (r .unit .watch) (r .unit .runner) s s' → Stepped (packed (shownAs (r .unit .watch .exposures) event)) s'
       moves-on r e octets event saw s' f =
-          let v = r .unit in
-          let k = step-keeps u seqs lists in
-          let part : withWatch (v .watch) (withRunner (v .runner) u) ≡ v = λ i. record { ledger = (sym (k .0) ∙ ap (λ (x : UnitStep). x .unit .ledger) (sym e)) i; control = (sym (k .1) ∙ ap (λ (x : UnitStep). x .unit .control) (sym e)) i; watch = v .watch; runner = v .runner } in
-          sees r e event s' saw (f ∙ ap (runOver (v .watch) (v .runner)) (same octets) ∙ run-over (v .watch) (v .runner) u ∙ ap stateOf part)
+          let k : Took u r event = rw e (took u seqs lists event (rw e at saw)) in
+          sees r e event s' saw (f u (same octets) (k .watch) (k .runner) ∙ ap stateOf (k .part))
+
+-- ── power-on
+pub powers : (s : List ℕ) → length s ≡ 32 → written s 0 (stateOf powerOn) ≡ stateOf powerOn
+unfolding stateOf powerOn
+powers s h = simp (h, drop-of-length-le s {i = 32} (omega arith))
 
 -- ── a report
 -- a part written after what is written already

@@ -1,29 +1,54 @@
--- What a part of the unit leaves in the bytes of a state when it is written over them, and nothing else is.
+-- What a call leaves in the bytes of a state when it writes over them what changed, and nothing else.
 use Prim.Native.Nat.{ℕ}
+use mathlib.Core.Path.{_≡_}
 use mathlib.Core.List.{List, [], _∷_, _++_}
-use Rattle.memory.specs.Memory.{written}
+use lib.ListN.{set}
+use lib.Seq.{sets}
+use Rattle.octets.specs.Bytes.{two}
+use Rattle.octets.specs.Layout.{flag}
 use Rattle.runner.specs.declared.Runner.{Runner}
-use Rattle.unit.specs.declared.Control.{Control}
+use Rattle.runner.specs.declared.Event.{Event}
+use Rattle.runner.specs.Moves.{moves}
+use Rattle.unit.specs.declared.Unit.{Unit}
 use Rattle.unit.specs.declared.Ledger.{Ledger}
 use Rattle.unit.specs.declared.Watch.{Watch}
-use Rattle.unit.specs.Status.{two}
-use Rattle.keel.specs.State.{flag}
+use Rattle.unit.specs.declared.Kind.{Kind}
+use Rattle.unit.specs.declared.Answer.{Answer}
+use Rattle.unit.specs.State.{withWatch, withRunner}
+use Rattle.unit.specs.Answer.{obeyedUnit, answerOf}
+use Rattle.unit.specs.Step.{watched}
+use Rattle.keel.specs.State.{stateOf}
 
--- what commands set
-unfoldable pub controlOver : Control → List ℕ → List ℕ
-controlOver c s = written (written s 0 (c .mode ∷ flag (c .allowed) ∷ two (c .requests))) 15 (c .selection ∷ [])
+-- ── parts of the unit
+-- what every counted packet changes: the count and the log
+abbrev pub logOver : Ledger → List ℕ → List ℕ
+logOver l s = sets (sets s 4 (two (l .received))) 11 (l .log .bc1 ∷ l .log .bc2 ∷ l .log .bc3 ∷ l .log .size ∷ [])
 
--- what a refusal may change
-unfoldable pub ledgerOver : Ledger → List ℕ → List ℕ
-ledgerOver l s =
-    written (written s 4 (two (l .received) ++ (two (l .failed) ++ (l .code ∷ l .number ∷ [])))) 11
-    (l .log .bc1 ∷ l .log .bc2 ∷ l .log .bc3 ∷ l .log .size ∷ [])
+-- what a refusal changes
+abbrev pub ledgerOver : Ledger → List ℕ → List ℕ
+ledgerOver l s = sets (logOver l s) 6 (two (l .failed) ++ (l .code ∷ l .number ∷ []))
 
--- what a step may change
-unfoldable pub runOver : Watch → Runner → List ℕ → List ℕ
-runOver w r s =
-    written (written s 10 (w .abort ∷ [])) 16
-    ((r .sequence ∷ r .place ∷ w .list ∷ two (w .exposures))
-    ++ (two (r .mirror)
-    ++ ((flag (r .running) ∷ flag (r .entering) ∷ r .raster ∷ r .count ∷ two (r .passes))
-    ++ (two (r .repeats) ++ (r .rounds ∷ [])))))
+-- the sequence and the place that the status shows
+abbrev pub placeOver : Runner → List ℕ → List ℕ
+placeOver r s = sets s 16 (r .sequence ∷ r .place ∷ [])
+
+-- what a start or a stop changes beside them
+abbrev pub runOver : Watch → Runner → List ℕ → List ℕ
+runOver w r s = sets (sets (set s 10 (w .abort)) 19 (two (w .exposures))) 23 (flag (r .running) ∷ flag (r .entering) ∷ r .raster ∷ [])
+
+-- the mirror and the open raster
+abbrev pub rasterOver : Runner → List ℕ → List ℕ
+rasterOver r s = sets (sets s 21 (two (r .mirror))) 25 ((r .raster ∷ r .count ∷ two (r .passes)) ++ two (r .repeats))
+
+-- ── whole calls: s the bytes before, t those after
+-- a step of this event
+abbrev pub StepWritten : Event → Watch → Runner → List ℕ → List ℕ → Type 0
+StepWritten e w r s t = (u : Unit) → s ≡ stateOf u → w ≡ watched e (u .watch) → r ≡ moves e r (u .runner) → t ≡ stateOf (withWatch w (withRunner r u))
+
+-- an obeyed packet of this kind, v the unit after it
+abbrev pub ObeyedWritten : Kind → Unit → List ℕ → List ℕ → Type 0
+ObeyedWritten k v s t = (p : List ℕ) (u : Unit) → s ≡ stateOf u → v ≡ obeyedUnit k p u → t ≡ stateOf v
+
+-- any packet that is answered
+abbrev pub AnswerWritten : Answer → List ℕ → List ℕ → List ℕ → Type 0
+AnswerWritten a p s t = (u : Unit) (time : ℕ) (seqs lists out : List ℕ) → s ≡ stateOf u → a ≡ answerOf u time seqs lists out p → t ≡ stateOf (a .unit)

@@ -1,26 +1,13 @@
 -- keel_check's report of 152 bytes: "0 code (0 passed; a fault's code; 16; 7); 1: 0 nothing listed, 1 ends, 2 returns, 3 fault; 2 fault's
 -- sequence; 3 its place; 6-7 how many are listed; 8-15 steps; 16-23 exposures, high byte first; 24-151 the chain, zeros after it; all else 0"
-use Prim.Native.Nat.{ℕ, _/_, _%_, _^_}
+use Prim.Native.Nat.{ℕ}
 use mathlib.Core.Bool.{Bool, cond}
-use mathlib.Core.List.{List, [], _∷_, _++_}
+use mathlib.Core.List.{List, _∷_, _++_}
 use lib.Dec.{eqb}
 use lib.ListN.{length}
-use Rattle.unit.specs.Status.{two}
+use Rattle.octets.specs.Bytes.{two, eight}
 use Rattle.survey.specs.Chain.{Told, checkOf}
 use Rattle.survey.specs.Report.{endingShown, padded}
-
--- eight bytes, high byte first
-abbrev pub eight : ℕ → List ℕ
-eight n =
-    n / 2 ^ 56 % 256
-    ∷ n / 2 ^ 48 % 256
-    ∷ n / 2 ^ 40 % 256
-    ∷ n / 2 ^ 32 % 256
-    ∷ n / 2 ^ 24 % 256
-    ∷ n / 2 ^ 16 % 256
-    ∷ n / 2 ^ 8 % 256
-    ∷ n % 256
-    ∷ []
 
 unfoldable pub reportBytes : Told → List ℕ
 reportBytes t =

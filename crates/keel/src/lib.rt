@@ -1,21 +1,23 @@
 // The library for C: the unit and the table check as functions on numbers and byte slices. include/keel.h declares them.
 ghost use mathlib.Core.Path.{_≡_};
-ghost use Prim.Native.Nat.{_+_, _*_, _≤_, _<_};
-ghost use lib.ListN.{length, getD};
-ghost use Rattle.octets.specs.Bytes.{wordAt};
-ghost use Rattle.unit.specs.Packet.{lentWrong};
+ghost use Prim.Native.Nat.{_+_, _*_, _/_, _%_, _≤_, _<_, _^_};
+ghost use lib.ListN.{length, set};
+ghost use Rattle.octets.specs.Bytes.{wordAt, eight};
+ghost use Rattle.octets.specs.Layout.{flag};
 ghost use Rattle.runner.specs.Events.{shownAs};
 ghost use Rattle.survey.specs.Chain.{Told};
 ghost use Rattle.survey.specs.Report.{endingShown, reportOf};
-ghost use Rattle.keel.specs.State.{flag, unitOf, stateOf, flagsWrong};
-ghost use Rattle.keel.specs.Parts.{controlOver, ledgerOver, runOver};
+ghost use Rattle.keel.specs.State.{unitOf, flagsWrong};
+ghost use Rattle.keel.specs.Parts.{logOver, ledgerOver, placeOver, runOver, rasterOver, StepWritten, ObeyedWritten, AnswerWritten};
 ghost use Rattle.keel.specs.Calls.{heldCode, powerCode, poweredOn, packetAnswer, stateAfter, keptSeqs, keptLists, keptOut, packed, deniedAs, stepAnswer, stateStepped};
-ghost use Rattle.keel.specs.Report.{eight, reportBytes, checkAnswer, reportAfter};
+ghost use Rattle.keel.specs.Report.{reportBytes, checkAnswer, reportAfter};
 use runner::Event;
 use runner::Runner;
 use survey::Ending;
 use survey::Report;
+use unit::Answer;
 use unit::Control;
+use unit::Kind;
 use unit::Ledger;
 use unit::Log;
 use unit::Outcome;
@@ -27,26 +29,12 @@ const STATE: usize = 32;
 
 const REPORT: usize = 152;
 
-// The word of two bytes, high byte first.
-fn pair(high: u8, low: u8) -> u16
-    ensures { λ r. ⌜ r ≡ high * 256 + low ⌝ }
-{
-    high as u16 * 256 + low as u16
-}
-
-// The word at a place.
-fn word(state: &[u8], at: usize) -> u16
+// The word at a place inside a state.
+fn word_in(state: &[u8], at: usize) -> u16
     requires { ⌜ at + 1 < length (now state) ⌝ }
     ensures { λ r. ⌜ r ≡ wordAt (now (state .entry)) at ⌝ }
 {
-    pair(state[at], state[at + 1])
-}
-
-// A flag's byte.
-fn flag(on: bool) -> u8
-    ensures { λ r. ⌜ r ≡ flag on ⌝ }
-{
-    if on { 1 } else { 0 }
+    octets::pair(state[at], state[at + 1])
 }
 
 // The unit that the bytes of a state hold.
@@ -56,8 +44,8 @@ fn unit_of(state: &[u8]) -> Unit
 {
     Unit {
         ledger: Ledger {
-            received: word(state, 4),
-            failed: word(state, 6),
+            received: word_in(state, 4),
+            failed: word_in(state, 6),
             code: state[8],
             number: state[9],
             log: Log {
@@ -70,12 +58,12 @@ fn unit_of(state: &[u8]) -> Unit
         control: Control {
             mode: state[0],
             allowed: state[1] != 0,
-            requests: word(state, 2),
+            requests: word_in(state, 2),
             selection: state[15],
         },
         watch: Watch {
             list: state[18],
-            exposures: word(state, 19),
+            exposures: word_in(state, 19),
             abort: state[10],
         },
         runner: Runner {
@@ -85,86 +73,150 @@ fn unit_of(state: &[u8]) -> Unit
             entering: state[24] != 0,
             raster: state[25],
             count: state[26],
-            passes: word(state, 27),
-            repeats: word(state, 29),
+            passes: word_in(state, 27),
+            repeats: word_in(state, 29),
             rounds: state[31],
-            mirror: word(state, 21),
+            mirror: word_in(state, 21),
         },
     }
 }
 
-// Writes what commands set over the bytes of a state.
-fn save_control(control: Control, state: &mut [u8])
-    ensures { λ _. ⌜ now (state .exit) ≡ controlOver control (now (state .entry)) ⌝ }
+// Writes a byte at a place.
+fn put(state: &mut [u8], at: usize, n: u8)
+    requires { ⌜ at < length (now state) ⌝ }
+    ensures { λ _. ⌜ now (state .exit) ≡ set (now (state .entry)) at n ⌝ }
 {
-    let first = [
-        control.mode,
-        flag(control.allowed),
-        (control.requests / 256 % 256) as u8,
-        (control.requests % 256) as u8,
-    ];
-    let selection = [control.selection];
-    memory::write(state, 0, &first);
-    memory::write(state, 15, &selection);
+    state[at] = n;
 }
 
-// Writes the counts, the failure and the log over the bytes of a state.
+// Writes a word at a place, high byte first.
+fn put_word(state: &mut [u8], at: usize, n: u16)
+    requires { ⌜ at + 1 < length (now state) ⌝ }
+    ensures { λ _. ⌜ now (state .exit) ≡ set (set (now (state .entry)) at (n / 256 % 256)) (at + 1) (n % 256) ⌝ }
+{
+    state[at] = (n / 256 % 256) as u8;
+    state[at + 1] = (n % 256) as u8;
+}
+
+// A flag's byte.
+fn flag(on: bool) -> u8
+    ensures { λ r. ⌜ r ≡ flag on ⌝ }
+{
+    if on { 1 } else { 0 }
+}
+
+// Writes a flag's byte at a place.
+fn put_flag(state: &mut [u8], at: usize, on: bool)
+    requires { ⌜ at < length (now state) ⌝ }
+    ensures { λ _. ⌜ now (state .exit) ≡ set (now (state .entry)) at (flag on) ⌝ }
+{
+    put(state, at, flag(on));
+}
+
+// Writes a packet's count and log over the bytes of a state.
+fn save_log(ledger: Ledger, state: &mut [u8])
+    requires { ⌜ length (now state) ≡ 32 ⌝ }
+    ensures { λ _. ⌜ now (state .exit) ≡ logOver ledger (now (state .entry)) ⌝ }
+{
+    put_word(state, 4, ledger.received);
+    put(state, 11, ledger.log.bc1);
+    put(state, 12, ledger.log.bc2);
+    put(state, 13, ledger.log.bc3);
+    put(state, 14, ledger.log.size);
+}
+
+// Writes what a refusal changes over the bytes of a state: the counts, the failure and the log.
 fn save_ledger(ledger: Ledger, state: &mut [u8])
+    requires { ⌜ length (now state) ≡ 32 ⌝ }
     ensures { λ _. ⌜ now (state .exit) ≡ ledgerOver ledger (now (state .entry)) ⌝ }
 {
-    let counts = [
-        (ledger.received / 256 % 256) as u8,
-        (ledger.received % 256) as u8,
-        (ledger.failed / 256 % 256) as u8,
-        (ledger.failed % 256) as u8,
-        ledger.code,
-        ledger.number,
-    ];
-    let log = [
-        ledger.log.bc1,
-        ledger.log.bc2,
-        ledger.log.bc3,
-        ledger.log.size,
-    ];
-    memory::write(state, 4, &counts);
-    memory::write(state, 11, &log);
+    save_log(ledger, state);
+    put_word(state, 6, ledger.failed);
+    put(state, 8, ledger.code);
+    put(state, 9, ledger.number);
 }
 
-// Writes what a run moves over the bytes of a state.
+// Writes the sequence and the place over the bytes of a state.
+fn save_place(runner: Runner, state: &mut [u8])
+    requires { ⌜ length (now state) ≡ 32 ⌝ }
+    ensures { λ _. ⌜ now (state .exit) ≡ placeOver runner (now (state .entry)) ⌝ }
+{
+    put(state, 16, runner.sequence);
+    put(state, 17, runner.place);
+}
+
+// Writes what a start or a stop changes beside the sequence and the place over the bytes of a state.
 fn save_run(watch: Watch, runner: Runner, state: &mut [u8])
+    requires { ⌜ length (now state) ≡ 32 ⌝ }
     ensures { λ _. ⌜ now (state .exit) ≡ runOver watch runner (now (state .entry)) ⌝ }
 {
-    let abort = [watch.abort];
-    let run = [
-        runner.sequence,
-        runner.place,
-        watch.list,
-        (watch.exposures / 256 % 256) as u8,
-        (watch.exposures % 256) as u8,
-        (runner.mirror / 256 % 256) as u8,
-        (runner.mirror % 256) as u8,
-        flag(runner.running),
-        flag(runner.entering),
-        runner.raster,
-        runner.count,
-        (runner.passes / 256 % 256) as u8,
-        (runner.passes % 256) as u8,
-        (runner.repeats / 256 % 256) as u8,
-        (runner.repeats % 256) as u8,
-        runner.rounds,
-    ];
-    memory::write(state, 10, &abort);
-    memory::write(state, 16, &run);
+    put(state, 10, watch.abort);
+    put_word(state, 19, watch.exposures);
+    put_flag(state, 23, runner.running);
+    put_flag(state, 24, runner.entering);
+    put(state, 25, runner.raster);
 }
 
-// Writes the unit over the bytes of a state.
-fn save(unit: Unit, state: &mut [u8])
+// Writes the mirror and the open raster over the bytes of a state.
+fn save_raster(runner: Runner, state: &mut [u8])
     requires { ⌜ length (now state) ≡ 32 ⌝ }
-    ensures { λ _. ⌜ now (state .exit) ≡ stateOf unit ⌝ }
+    ensures { λ _. ⌜ now (state .exit) ≡ rasterOver runner (now (state .entry)) ⌝ }
 {
-    save_control(unit.control, state);
-    save_ledger(unit.ledger, state);
-    save_run(unit.watch, unit.runner, state);
+    put_word(state, 21, runner.mirror);
+    put(state, 25, runner.raster);
+    put(state, 26, runner.count);
+    put_word(state, 27, runner.passes);
+    put_word(state, 29, runner.repeats);
+}
+
+// Writes what an obeyed packet of this kind changes over the bytes of a state.
+fn save_obeyed(kind: Kind, unit: Unit, state: &mut [u8])
+    requires { ⌜ length (now state) ≡ 32 ⌝ }
+    ensures { λ _. ⌜ ObeyedWritten kind unit (now (state .entry)) (now (state .exit)) ⌝ }
+{
+    match kind {
+        Kind::Status => put_word(state, 2, unit.control.requests),
+        Kind::Dump => save_log(unit.ledger, state),
+        Kind::Allow => {
+            save_log(unit.ledger, state);
+            put_flag(state, 1, unit.control.allowed);
+        }
+        Kind::Mode => {
+            save_log(unit.ledger, state);
+            put(state, 0, unit.control.mode);
+            save_place(unit.runner, state);
+            save_run(unit.watch, unit.runner, state);
+        }
+        Kind::Clear => {
+            save_log(unit.ledger, state);
+            put(state, 8, unit.ledger.code);
+            put(state, 9, unit.ledger.number);
+            put(state, 10, unit.watch.abort);
+        }
+        Kind::Select => {
+            save_log(unit.ledger, state);
+            put(state, 15, unit.control.selection);
+            save_place(unit.runner, state);
+        }
+        Kind::Uplink => save_log(unit.ledger, state),
+        Kind::Foreign => save_log(unit.ledger, state),
+        Kind::Unheard => save_log(unit.ledger, state),
+    }
+}
+
+// Writes what a packet changed over the bytes of a state: 16 and 17 change nothing.
+fn save_answer(answer: Answer, packet: &[u8], state: &mut [u8])
+    requires { ⌜ length (now state) ≡ 32 ⌝ }
+    ensures { λ _. ⌜ AnswerWritten answer (now (packet .entry)) (now (state .entry)) (now (state .exit)) ⌝ }
+{
+    let unit = answer.unit;
+    if answer.code == 0 {
+        save_obeyed(unit::kind_of(octets::byte(packet, 0)), unit, state);
+        return;
+    }
+    if answer.code < 16 {
+        save_ledger(unit.ledger, state);
+    }
 }
 
 // Whether a flag's byte is above 1.
@@ -172,23 +224,10 @@ fn flags_wrong(state: &[u8]) -> bool
     requires { ⌜ length (now state) ≡ 32 ⌝ }
     ensures { λ r. ⌜ r ≡ flagsWrong (now (state .entry)) ⌝ }
 {
-    if 1 < state[1] {
-        return true;
-    }
-    if 1 < state[23] {
-        return true;
-    }
-    1 < state[24]
-}
-
-// Whether a lent table or the output has a wrong size.
-fn lent_wrong(seqs: &[u8], lists: &[u8], out: &[u8]) -> bool
-    ensures { λ r. ⌜ r ≡ lentWrong (now (seqs .entry)) (now (lists .entry)) (now (out .entry)) ⌝ }
-{
-    if memory::tables_wrong(seqs, lists) {
-        return true;
-    }
-    out.len() < memory::LONGEST
+    let allowed = 1 < state[1];
+    let running = 1 < state[23];
+    let entering = 1 < state[24];
+    octets::either(allowed, octets::either(running, entering))
 }
 
 // What the bytes of a state are refused for before the unit's own rules, given whether something else lent is wrong: 16,
@@ -205,7 +244,7 @@ fn held_code(lent: bool, state: &[u8]) -> u8
     octets::refuse(flags_wrong(state), 17, 0)
 }
 
-// The state at power-on.
+// The state at power-on: mode 1, selection, status sequence and open raster none, all else 0.
 #[no_mangle]
 pub extern "C" fn keel_power_on(state: &mut [u8]) -> u32
     ensures { λ r. ⌜ r ≡ powerCode (now (state .entry)) ⌝ }
@@ -214,7 +253,12 @@ pub extern "C" fn keel_power_on(state: &mut [u8]) -> u32
     if state.len() != STATE {
         return 16;
     }
-    save(Unit::power_on(), state);
+    let mut block = [0u8; STATE];
+    block[0] = 1;
+    block[15] = Runner::NONE;
+    block[16] = Runner::NONE;
+    block[25] = Runner::NONE;
+    memory::write(state, 0, &block);
     0
 }
 
@@ -242,115 +286,89 @@ pub extern "C" fn keel_packet(
     ensures { λ _. ⌜ now (lists .exit) ≡ keptLists (now (state .entry)) (now (seqs .entry)) (now (lists .entry)) (now (out .entry)) (now (packet .entry)) ⌝ }
     ensures { λ _. ⌜ now (out .exit) ≡ keptOut (now (state .entry)) time (now (seqs .entry)) (now (lists .entry)) (now (out .entry)) (now (packet .entry)) ⌝ }
 {
-    let held = held_code(lent_wrong(seqs, lists, out), state);
+    let held = held_code(unit::lent_wrong(seqs, lists, out), state);
     if held != 0 {
         return held as u32;
     }
     let answer = unit_of(state).packet(seqs, lists, out, time, packet);
-    let told = answer_of(answer.code, answer.length);
-    if 16 <= answer.code {
-        return told;
-    }
-    let unit = answer.unit;
-    if answer.code != 0 {
-        save_ledger(unit.ledger, state);
-        return told;
-    }
-    save(unit, state);
-    told
+    save_answer(answer, packet, state);
+    answer_of(answer.code, answer.length)
 }
 
-// An event's number and its values, 0 where it has fewer than three.
-struct Parts {
-    number: u8,
-    first: u16,
-    second: u16,
-    third: u16,
+// An event's number and its values as one number.
+fn packed(number: u8, first: u16, second: u16, third: u16) -> u64
+    ensures { λ r. ⌜ r ≡ number + first * 2 ^ 16 + second * 2 ^ 32 + third * 2 ^ 48 ⌝ }
+{
+    number as u64
+        + first as u64 * 65536
+        + second as u64 * 4294967296
+        + third as u64 * 281474976710656
 }
 
-// What an event shows; the count is the unit's exposures after the step.
-fn parts_of(count: u16, event: Event) -> Parts
-    ensures { λ r. ⌜ (r .number ≡ shownAs count event .number) × (r .first ≡ getD (shownAs count event .values) 0 0) × (r .second ≡ getD (shownAs count event .values) 1 0) × (r .third ≡ getD (shownAs count event .values) 2 0) ⌝ }
+// Writes what a step of this event moves over the bytes of a state, and gives the event as one number.
+fn tell_step(event: Event, watch: Watch, runner: Runner, state: &mut [u8]) -> u64
+    requires { ⌜ length (now state) ≡ 32 ⌝ }
+    ensures { λ r. ⌜ r ≡ packed (shownAs (watch .exposures) event) ⌝ }
+    ensures { λ _. ⌜ StepWritten event watch runner (now (state .entry)) (now (state .exit)) ⌝ }
 {
     match event {
-        Event::Idle => Parts {
-            number: 0,
-            first: 0,
-            second: 0,
-            third: 0,
-        },
-        Event::Enter(s) => Parts {
-            number: 1,
-            first: s as u16,
-            second: 0,
-            third: 0,
-        },
-        Event::Raster(id, pos, _) => Parts {
-            number: 2,
-            first: id,
-            second: pos,
-            third: 0,
-        },
-        Event::Exp(pos) => Parts {
-            number: 3,
-            first: count,
-            second: pos,
-            third: 0,
-        },
-        Event::Loop(place) => Parts {
-            number: 4,
-            first: place as u16,
-            second: 0,
-            third: 0,
-        },
-        Event::Next => Parts {
-            number: 5,
-            first: 0,
-            second: 0,
-            third: 0,
-        },
-        Event::Done => Parts {
-            number: 6,
-            first: 0,
-            second: 0,
-            third: 0,
-        },
-        Event::Wait(t) => Parts {
-            number: 7,
-            first: t,
-            second: 0,
-            third: 0,
-        },
-        Event::Call(s) => Parts {
-            number: 8,
-            first: s as u16,
-            second: 0,
-            third: 0,
-        },
-        Event::End => Parts {
-            number: 9,
-            first: 0,
-            second: 0,
-            third: 0,
-        },
-        Event::Abort(code, s, place) => Parts {
-            number: 10,
-            first: code as u16,
-            second: s as u16,
-            third: place as u16,
-        },
+        Event::Idle => 0,
+        Event::Enter(s) => {
+            put(state, 17, runner.place);
+            put_flag(state, 24, runner.entering);
+            put(state, 31, runner.rounds);
+            packed(1, s as u16, 0, 0)
+        }
+        Event::Raster(id, pos, list) => {
+            put(state, 17, runner.place);
+            put(state, 18, list);
+            save_raster(runner, state);
+            packed(2, id, pos, 0)
+        }
+        Event::Exp(pos) => {
+            put(state, 17, runner.place);
+            put_word(state, 19, watch.exposures);
+            put_word(state, 21, runner.mirror);
+            put(state, 26, runner.count);
+            packed(3, watch.exposures, pos, 0)
+        }
+        Event::Loop(place) => {
+            put(state, 17, runner.place);
+            put(state, 26, runner.count);
+            put_word(state, 27, runner.passes);
+            packed(4, place as u16, 0, 0)
+        }
+        Event::Next => {
+            put(state, 17, runner.place);
+            put_word(state, 29, runner.repeats);
+            put(state, 31, runner.rounds);
+            5
+        }
+        Event::Done => {
+            put(state, 17, runner.place);
+            put(state, 25, runner.raster);
+            6
+        }
+        Event::Wait(t) => {
+            put(state, 17, runner.place);
+            packed(7, t, 0, 0)
+        }
+        Event::Call(s) => {
+            save_place(runner, state);
+            put_flag(state, 24, runner.entering);
+            packed(8, s as u16, 0, 0)
+        }
+        Event::End => {
+            put_flag(state, 23, runner.running);
+            9
+        }
+        Event::Abort(code, s, place) => {
+            put(state, 10, code);
+            put(state, 17, runner.place);
+            put_flag(state, 23, runner.running);
+            packed(10, code as u16, s as u16, place as u16)
+        }
     }
-}
-
-// An event as one number.
-fn packed(count: u16, event: Event) -> u64
-    ensures { λ r. ⌜ r ≡ packed (shownAs count event) ⌝ }
-{
-    let parts = parts_of(count, event);
-    parts.number as u64
-        + parts.first as u64 * 65536
-        + parts.second as u64 * 4294967296
-        + parts.third as u64 * 281474976710656
 }
 
 // A refused step as one number.
@@ -383,8 +401,7 @@ pub extern "C" fn keel_step(state: &mut [u8], seqs: &[u8], lists: &[u8]) -> u64
         Outcome::Denied(code) => denied(code),
         Outcome::Saw(event) => {
             let after = stepped.unit;
-            save_run(after.watch, after.runner, state);
-            packed(after.watch.exposures, event)
+            tell_step(event, after.watch, after.runner, state)
         }
     }
 }

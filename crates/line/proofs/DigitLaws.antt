@@ -2,10 +2,13 @@
 -- tens and one digit more. Assumes nothing.
 use Prim.Native.Nat.{ℕ, zero, suc, _+_, _*_, _-_, _/_, _%_, _^_, _<_, _≤_}
 use native.Mathlib.Nat.{pow-suc}
+use native.Mathlib.Numerals.{add-one}
 use native.Mathlib.Omega.{arith}
 use mathlib.Core.Path.{_≡_, refl, ap, _∙_}
 use mathlib.Core.Bool.{Bool, true, false, cond, _&&_, Bool·beq, false≢true}
-use mathlib.Core.List.{[], _∷_, _++_}
+use mathlib.Core.List.{List, [], _∷_, _++_, append-nil}
+use lib.ListN.{length, set, take, drop, length-append, length-set, length-drop, drop-of-length-le}
+use lib.Seq.{append-snoc, set-split, drop-at, length-take-le, take-all}
 use lib.Dec.{ltb, eqb}
 use borrow.Author.Tests.{lt-ltb, le-ltb, ltb-true, ltb-false, eqb-true}
 use Rattle.line.specs.Digits.{digitOf, valueOf, isHex, spell, decimal}
@@ -101,3 +104,73 @@ decimal-digit n h = rw (lt-ltb n 10 h)
 pub decimal-more : (n : ℕ) → 10 ≤ n → n < 2 ^ 64 → decimal n ≡ decimal (n / 10) ++ (digitOf (n % 10) ∷ [])
 unfolding decimal spell
 decimal-more n h l = rw (le-ltb n 10 h, ← spell-enough 18 (n / 10) (omega arith))
+
+-- ── digits made from the last one on
+spell-length : (k n : ℕ) → (0 < length (spell k n)) × (length (spell k n) ≤ suc k)
+unfolding spell
+spell-length zero n = (omega arith, omega arith)
+spell-length (suc k) n =
+    let (some, few) = spell-length k (n / 10) in
+    either (ltb n 10)
+    (λ t. rw t (omega arith, omega arith))
+    (λ t. rw (t, length-append (spell k (n / 10)) (digitOf (n % 10) ∷ [])) (omega arith, omega arith))
+
+decimal-length : (n : ℕ) → (0 < length (decimal n)) × (length (decimal n) ≤ 20)
+unfolding decimal
+decimal-length n = spell-length 19 n
+
+-- a number of two digits or more has one digit more than its tens
+decimal-longer : (n : ℕ) → 10 ≤ n → n < 2 ^ 64 → length (decimal n) ≡ length (decimal (n / 10)) + 1
+decimal-longer n h l = ap length (decimal-more n h l) ∙ length-append (decimal (n / 10)) (digitOf (n % 10) ∷ [])
+
+-- the digits behind a place, after those of the number that is left, are those of n; and up to the place there is room for the latter
+pub record Made (left from : ℕ) (digits : List ℕ) (n : ℕ) : Type 0 where
+  pub below : left < 2 ^ 64
+  pub size : length digits ≡ 20
+  pub place : from < 20
+  pub room : length (decimal left) ≤ from + 1
+  pub whole : decimal left ++ drop (from + 1) digits ≡ decimal n
+
+pub made-none : (digits : List ℕ) (n : ℕ) → n < 2 ^ 64 → length digits ≡ 20 → Made n 19 digits n
+made-none digits n l h =
+    record {
+      below = l;
+      size = h;
+      place = omega arith;
+      room = decimal-length n .1;
+      whole = rw (drop-of-length-le digits {i = 20} (omega arith), append-nil (decimal n));
+    }
+
+module _ {left from n : ℕ} {digits : List ℕ} (m : Made left from digits n) where
+  pub made-room : 10 ≤ left → 0 < from
+  made-room h = omega (arith, decimal-longer left h (m .below), decimal-length (left / 10) .0)
+
+  -- a digit put at the place
+  module _ (d : ℕ) where
+    stored : drop from (set digits from d) ≡ d ∷ drop (from + 1) digits
+    stored =
+        rw (set-split digits from d (omega arith), add-one from)
+        (drop-at (take from digits) (d ∷ drop (suc from) digits) from (length-take-le from digits (omega arith)))
+
+    pub made-length : 20 ≤ length (set digits from d)
+    made-length = omega (arith, length-set digits from d)
+
+    pub made-more : 10 ≤ left → d ≡ digitOf (left % 10) → Made (left / 10) (from - 1) (set digits from d) n
+    made-more h e =
+        let longer = decimal-longer left h (m .below) in
+        let some = made-room h in
+        let here : from - 1 + 1 ≡ from = omega arith in
+        record {
+          below = omega arith;
+          size = length-set digits from d ∙ m .size;
+          place = omega arith;
+          room = omega arith;
+          whole =
+              rw (here, stored, ← append-snoc (decimal (left / 10)) d (drop (from + 1) digits), e, ← decimal-more left h (m .below)) (m .whole);
+        }
+
+    pub made-all : left < 10 → d ≡ digitOf left → take (20 - from) (drop from (set digits from d)) ≡ decimal n
+    made-all h e =
+        let p = length-drop from (set digits from d) in
+        let q = length-set digits from d in
+        rw (take-all (20 - from) (drop from (set digits from d)) (omega arith), stored, e) (rw (decimal-digit left h) at (m .whole))

@@ -1,21 +1,20 @@
 -- Laws of what is read: each loop goes on with what is left of the line, and what is left says what the whole did.
 -- Assumes nothing.
-use Prim.Native.Nat.{ℕ, zero, suc, _+_, _*_, _-_, _%_, _<_, _≤_, min}
+use Prim.Native.Nat.{ℕ, zero, suc, _+_, _*_, _-_, _%_, _<_, _≤_}
 use native.Mathlib.Omega.{arith}
 use native.Mathlib.Nat.{add-zero}
 use native.Mathlib.Numerals.{add-one}
 use mathlib.Core.Path.{_≡_, refl, sym, ap, _∙_}
-use mathlib.Core.Bool.{Bool, true, false, cond, _&&_, Bool·beq}
+use mathlib.Core.Bool.{Bool, true, false, cond, _&&_}
 use mathlib.Core.List.{List, [], _∷_}
 use lib.Dec.{ltb, leb, eqb}
 use lib.ListN.{length, getD, set, drop, length-drop, drop-of-length-le, List·getD-eq-default}
 use lib.Seq.{drop-cons, getD-drop}
 use borrow.Author.Tests.{lt-ltb, le-ltb, le-leb, lt-leb, eq-eqb, ne-eqb, ltb-true, leb-true, eqb-true}
-use Rattle.line.specs.Digits.{placeIn, valueOf, isHex, bytesIn, isDigit, shownOn, all}
+use Rattle.line.specs.Digits.{valueOf, isHex, bytesIn, isDigit, shownOn, all}
 use Rattle.line.specs.Writing.{laid}
-use Rattle.line.specs.Reading.{isFigure, figureOf, zeroLeads, numberOf, isBlank, run, begins, isPacket}
-use Rattle.line.specs.declared.Figure.{Figure}
-use Rattle.line.specs.declared.Figure.the-variants.{Digits, Other}
+use Rattle.line.specs.Reading.{isFigure, zeroLeads, numberOf, begins, isPacket}
+use Rattle.line.specs.declared.Numeral.{Numeral}
 use Rattle.line.specs.declared.Numeral.the-variants.{Value, Wrong}
 use Rattle.line.proofs.DigitLaws.{either, both}
 use Rattle.line.proofs.WritingLaws.{next-place}
@@ -62,48 +61,35 @@ begins-short (x ∷ w) (b ∷ l) h = rw (begins-short w l (omega arith)) (either
 
 -- ── decimal digits
 -- what digits come to, after digits that showed n
-abbrev pub readOn : ℕ → List ℕ → Figure
-readOn n s = cond (all isDigit s) (Digits (min (shownOn n s) 65536)) Other
+abbrev pub readOn : ℕ → List ℕ → Numeral
+readOn n s = cond (all isDigit s && leb (shownOn n s) 65535) (Value (shownOn n s)) Wrong
 
--- a number above 65535 may be taken as 65536 before more digits
-shown-min : (n : ℕ) (s : List ℕ) → min (shownOn (min n 65536) s) 65536 ≡ min (shownOn n s) 65536
+-- more digits show no smaller number
+shown-least : (n : ℕ) (s : List ℕ) → n ≤ shownOn n s
 unfolding shownOn
-shown-min n [] = omega arith
-shown-min n (d ∷ s) =
-    let e : min (min n 65536 * 10 + (d - 48)) 65536 ≡ min (n * 10 + (d - 48)) 65536 = cut n (d - 48) in
-    sym (shown-min (min n 65536 * 10 + (d - 48)) s)
-    ∙ ap (λ (m : ℕ). min (shownOn m s) 65536) e
-    ∙ shown-min (n * 10 + (d - 48)) s
-  where
-    cut : (a v : ℕ) → min (min a 65536 * 10 + v) 65536 ≡ min (a * 10 + v) 65536
-    cut a v = omega arith
+shown-least n [] = omega arith
+shown-least n (d ∷ s) = omega (arith, shown-least (n * 10 + (d - 48)) s)
+
+pub read-large : (n : ℕ) (s : List ℕ) → 65535 < n → readOn n s ≡ Wrong
+read-large n s h =
+    rw (lt-leb (shownOn n s) 65535 (omega (arith, shown-least n s))) (either (all isDigit s) (λ t. rw t) (λ t. rw t))
 
 module _ (s : List ℕ) (i n : ℕ) (h : i < length s) where
-  pub read-on : (m : ℕ) → 48 ≤ getD s i 0 → getD s i 0 ≤ 57 → m ≡ min (n * 10 + (getD s i 0 - 48)) 65536
-      → readOn m (drop (i + 1) s) ≡ readOn n (drop i s)
+  pub read-on : 48 ≤ getD s i 0 → getD s i 0 ≤ 57 → readOn (n * 10 + (getD s i 0 - 48)) (drop (i + 1) s) ≡ readOn n (drop i s)
   unfolding all shownOn
-  read-on m l k e =
-      rw (add-one i, drop-cons s i 0 h, le-leb 48 (getD s i 0) l, le-leb (getD s i 0) 57 k, e, shown-min (n * 10 + (getD s i 0 - 48)) (drop (suc i) s))
+  read-on l k = rw (add-one i, drop-cons s i 0 h, le-leb 48 (getD s i 0) l, le-leb (getD s i 0) 57 k)
 
-  pub read-low : getD s i 0 < 48 → readOn n (drop i s) ≡ Other
+  pub read-low : getD s i 0 < 48 → readOn n (drop i s) ≡ Wrong
   unfolding all
   read-low l = rw (drop-cons s i 0 h, lt-leb 48 (getD s i 0) l)
 
-  pub read-high : 48 ≤ getD s i 0 → 57 < getD s i 0 → readOn n (drop i s) ≡ Other
+  pub read-high : 48 ≤ getD s i 0 → 57 < getD s i 0 → readOn n (drop i s) ≡ Wrong
   unfolding all
   read-high l k = rw (drop-cons s i 0 h, le-leb 48 (getD s i 0) l, lt-leb (getD s i 0) 57 k)
 
-pub read-end : (s : List ℕ) (i n : ℕ) → length s ≤ i → n ≤ 65536 → readOn n (drop i s) ≡ Digits n
+pub read-end : (s : List ℕ) (i n : ℕ) → length s ≤ i → n ≤ 65535 → readOn n (drop i s) ≡ Value n
 unfolding all shownOn
-read-end s i n h k = let e : min n 65536 ≡ n = omega arith in rw (drop-of-length-le s {i = i} h, e)
-
-pub figure-none : (s : List ℕ) (i : ℕ) → length s ≤ i → Other ≡ figureOf (drop i s)
-unfolding figureOf isFigure
-figure-none s i h = rw (drop-of-length-le s {i = i} h)
-
-pub figure-some : (s : List ℕ) (i : ℕ) → i < length s → readOn 0 (drop i s) ≡ figureOf (drop i s)
-unfolding figureOf isFigure
-figure-some s i h = rw (lt-ltb 0 (length (drop i s)) (omega (arith, length-drop i s)))
+read-end s i n h k = rw (drop-of-length-le s {i = i} h, le-leb n 65535 k)
 
 -- ── a number
 module _ (s : List ℕ) (i : ℕ) where
@@ -130,71 +116,18 @@ module _ (s : List ℕ) (i : ℕ) where
           (λ t. let k = ltb-true (a + 1) n t in t ∙ sym (lt-ltb 1 (n - a) (omega arith)))
           (λ t. let k = borrow.Author.Tests.ltb-false (a + 1) n t in t ∙ sym (le-ltb 1 (n - a) (omega arith)))
 
-module _ (s : List ℕ) where
-  -- digits that come to a number are digits, and show it as far as 65536
-  figure-told : (n : ℕ) → figureOf s ≡ Digits n → (isFigure s ≡ true) × (min (shownOn 0 s) 65536 ≡ n)
-  unfolding figureOf
-  figure-told n e = either (isFigure s) (λ t. (t, amount (rw t at e))) (λ t. absurd (never (rw t at e)))
-    where
-      amount : {m : ℕ} → Digits m ≡ Digits n → m ≡ n
-      amount d = cc
+  pub number-none : length s ≤ i → Wrong ≡ numberOf (drop i s)
+  unfolding numberOf isFigure
+  number-none h = rw (drop-of-length-le s {i = i} h)
 
-      never : Other ≡ Digits n → ⊥
-      never d = let z : _≡_ {A = ℕ} 0 1 = cc in omega arith
-
-  pub figure-below : (n : ℕ) → figureOf s ≡ Digits n → n ≤ 65536
-  figure-below n e = let (f, m) = figure-told n e in omega arith
-
-  pub number-led : zeroLeads s ≡ true → Wrong ≡ numberOf s
+  pub number-led : zeroLeads (drop i s) ≡ true → Wrong ≡ numberOf (drop i s)
   unfolding numberOf
-  number-led z = rw z (either (isFigure s) (λ t. rw t) (λ t. rw t))
+  number-led z = rw z (either (isFigure (drop i s)) (λ t. rw t) (λ t. rw t))
 
-  pub number-other : figureOf s ≡ Other → Wrong ≡ numberOf s
-  unfolding figureOf numberOf
-  number-other e = either (isFigure s) (λ t. absurd (never (rw t at e))) (λ t. rw t)
-    where
-      never : {n : ℕ} → Digits n ≡ Other → ⊥
-      never d = let z : _≡_ {A = ℕ} 0 1 = cc in omega arith
-
-  module _ (n : ℕ) (z : zeroLeads s ≡ false) (e : figureOf s ≡ Digits n) where
-    pub number-large : n ≡ 65536 → Wrong ≡ numberOf s
-    unfolding numberOf
-    number-large h =
-        let (f, m) = figure-told n e in
-        rw (f, z, lt-leb (shownOn 0 s) 65535 (omega arith))
-
-    pub number-value : (n ≡ 65536 → ⊥) → Value n ≡ numberOf s
-    unfolding numberOf
-    number-value h =
-        let (f, m) = figure-told n e in
-        let g : shownOn 0 s ≡ n = omega arith in
-        rw (f, z, g, le-leb n 65535 (omega arith))
-
--- ── the end of a line
-module _ (b : ℕ) (l : List ℕ) (i : ℕ) where
-  pub place-on : i < length l → (getD l i 0 ≡ b → ⊥) → i + 1 + placeIn b (drop (i + 1) l) ≡ i + placeIn b (drop i l)
-  place-on h n = rw (add-one i, drop-cons l i 0 h, ne-eqb b (getD l i 0) (λ e. n (sym e))) (omega arith)
-
-  pub place-off : i < length l → getD l i 0 ≡ b → i ≡ i + placeIn b (drop i l)
-  place-off h e = rw (drop-cons l i 0 h, eq-eqb b (getD l i 0) (sym e)) (omega arith)
-
-  pub place-end : length l ≤ i → i ≡ i + placeIn b (drop i l)
-  place-end h = rw (drop-of-length-le l {i = i} h) (omega arith)
-
--- ── blanks
-module _ (blank : Bool) (l : List ℕ) (i : ℕ) where
-  module _ (b : Bool) (h : i < length l) (e : b ≡ isBlank (getD l i 0)) where
-    pub run-on : Bool·beq b blank ≡ true → i + 1 + run blank (drop (i + 1) l) ≡ i + run blank (drop i l)
-    unfolding run
-    run-on t = rw (add-one i, drop-cons l i 0 h, ← e, t) (omega arith)
-
-    pub run-off : Bool·beq b blank ≡ false → i ≡ i + run blank (drop i l)
-    unfolding run
-    run-off t = rw (drop-cons l i 0 h, ← e, t) (omega arith)
-
-  pub run-end : length l ≤ i → i ≡ i + run blank (drop i l)
-  unfolding run
-  run-end h = rw (drop-of-length-le l {i = i} h) (omega arith)
+  pub number-read : i < length s → zeroLeads (drop i s) ≡ false → readOn 0 (drop i s) ≡ numberOf (drop i s)
+  unfolding numberOf isFigure
+  number-read h z =
+      rw (lt-ltb 0 (length (drop i s)) (omega (arith, length-drop i s)), z) (either (all isDigit (drop i s)) (λ t. rw t) (λ t. rw t))
 
 -- ── a packet
 pub packet-told : (l : List ℕ) → isPacket l ≡ true → (length l % 2 ≡ 0) × (length l ≤ 280) × (all isHex l ≡ true)

@@ -1,14 +1,13 @@
 -- Laws of texts laid over an output: one after the other, and those of a list in a loop. Assumes nothing.
-use Prim.Native.Nat.{ℕ, suc, _+_, _/_, _%_, _^_, _<_, _≤_}
+use Prim.Native.Nat.{ℕ, suc, _+_, _/_, _%_, _<_, _≤_}
 use native.Mathlib.Omega.{arith}
 use native.Mathlib.Numerals.{add-one}
 use mathlib.Core.Path.{_≡_, refl, sym, ap, ap₂, _∙_}
 use mathlib.Core.List.{List, [], _∷_, _++_, append-nil, append-assoc}
 use lib.ListN.{length, getD, set, drop, length-append, length-set, drop-of-length-le}
 use lib.Seq.{drop-cons, set-out}
-use Rattle.line.specs.Digits.{digitOf, hexOf, decimal, each}
+use Rattle.line.specs.Digits.{digitOf, hexOf, each}
 use Rattle.line.specs.Writing.{lastPlace, after, laid, Laid, spaced}
-use Rattle.line.proofs.DigitLaws.{decimal-digit, decimal-more}
 
 -- ── one text after the other
 after-none : (at : ℕ) → after at 0 ≡ at
@@ -76,18 +75,10 @@ module _ (o : List ℕ) (at b : ℕ) where
   byte-last h l = byte-out at h (omega arith)
 
 -- ── digits
--- a byte in hex is two bytes laid, a number in decimal one byte or that of its tens and one byte more
-module _ {o o₁ : List ℕ} {p q x : ℕ} where
-  pub octet : {o₂ : List ℕ} {r y : ℕ} (b : ℕ) → x ≡ digitOf (b / 16) → y ≡ digitOf (b % 16) → Laid o o₁ p q (x ∷ [])
-      → Laid o₁ o₂ q r (y ∷ []) → Laid o o₂ p r (hexOf b)
-  octet b d e u v = rw (← d, ← e) (laid-then u v)
-
-  pub number-digit : (n : ℕ) → n < 10 → x ≡ digitOf n → Laid o o₁ p q (x ∷ []) → Laid o o₁ p q (decimal n)
-  number-digit n h d u = rw (decimal-digit n h, ← d) u
-
-pub number-more : {o o₁ o₂ : List ℕ} {p q r x : ℕ} (n : ℕ) → 10 ≤ n → n < 2 ^ 64 → x ≡ digitOf (n % 10)
-    → Laid o o₁ p q (decimal (n / 10)) → Laid o₁ o₂ q r (x ∷ []) → Laid o o₂ p r (decimal n)
-number-more n h l d u v = rw (decimal-more n h l, ← d) (laid-then u v)
+-- a byte in hex is two bytes laid
+pub octet : {o o₁ o₂ : List ℕ} {p q r x y : ℕ} (b : ℕ) → x ≡ digitOf (b / 16) → y ≡ digitOf (b % 16) → Laid o o₁ p q (x ∷ [])
+    → Laid o₁ o₂ q r (y ∷ []) → Laid o o₂ p r (hexOf b)
+octet b d e u v = rw (← d, ← e) (laid-then u v)
 
 pub octet-in : (o : List ℕ) (p b x y : ℕ) → p + 1 < lastPlace → x ≡ digitOf (b / 16) → y ≡ digitOf (b % 16)
     → Laid o (set (set o p x) (p + 1) y) p (p + 2) (hexOf b)

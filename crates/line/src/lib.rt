@@ -6,11 +6,11 @@
 ghost use mathlib.Core.Path.{_≡_};
 ghost use mathlib.Core.Bool.{true};
 ghost use mathlib.Core.List.{[], _∷_};
-ghost use Prim.Native.Nat.{_+_, _*_, _-_, _≤_, _<_, min};
+ghost use Prim.Native.Nat.{_+_, _*_, _≤_, _<_};
 ghost use lib.ListN.{length, drop};
 ghost use Rattle.line.specs.Digits.{digitOf, valueOf, isHex, hexOf, bytesIn, decimal, all, each};
 ghost use Rattle.line.specs.Writing.{laid, Laid, spaced, wordLine, answerText, kindText, blockText, eventText, badText};
-ghost use Rattle.line.specs.Reading.{figureOf, zeroLeads, numberOf, lineEnd, isBlank, run, wordFrom, begins, isPacket, stepsOf, lineOf, packetAfter};
+ghost use Rattle.line.specs.Reading.{zeroLeads, numberOf, begins, isPacket, stepsOf, lineOf, packetAfter};
 use runner::Event;
 
 // The most hex digits that a packet's line has.
@@ -29,22 +29,10 @@ pub enum Line {
     Bad,
 }
 
-// Decimal digits as a number, 65536 for any above 65535; or something else.
-pub enum Figure {
-    Digits(u32),
-    Other,
-}
-
 // A number from 0 to 65535 with no leading zero.
 pub enum Numeral {
     Value(u16),
     Wrong,
-}
-
-// A word's place in a line, from its first byte to the place after its last.
-pub struct Span {
-    pub start: usize,
-    pub end: usize,
 }
 
 // A digit as it is written, in capitals.
@@ -82,15 +70,20 @@ pub fn put_word(out: &mut [u8], at: usize, word: &[u8]) -> usize
     p
 }
 
-// Puts a number in decimal.
+// Puts a number in decimal: its digits are made from the last one on, and twenty hold every number.
 pub fn put_number(out: &mut [u8], at: usize, n: u64) -> usize
     ensures { λ r. ⌜ Laid (now (out .entry)) (now (out .exit)) at r (decimal n) ⌝ }
 {
-    if n < 10 {
-        return put(out, at, digit(n as u8));
+    let mut digits = [0u8; 20];
+    let mut from = 19;
+    let mut left = n;
+    while 10 <= left {
+        digits[from] = digit((left % 10) as u8);
+        left /= 10;
+        from -= 1;
     }
-    let p = put_number(out, at, n / 10);
-    put(out, p, digit((n % 10) as u8))
+    digits[from] = digit(left as u8);
+    put_word(out, at, &digits[from..])
 }
 
 // Puts a blank and a number.
@@ -315,38 +308,6 @@ fn read_packet(line: &[u8], packet: &mut [u8; 140])
     }
 }
 
-// A number and one digit more; past 65535, 65536.
-fn more(n: u32, b: u8) -> u32
-    requires { ⌜ (n ≤ 65536) × (48 ≤ b) ⌝ }
-    ensures { λ r. ⌜ r ≡ min (n * 10 + (b - 48)) 65536 ⌝ }
-{
-    let m = n * 10 + (b - b'0') as u32;
-    if m < 65536 { m } else { 65536 }
-}
-
-// The decimal digits from a place on as a number; leading zeros are taken.
-pub fn figures(s: &[u8], from: usize) -> Figure
-    ensures { λ r. ⌜ r ≡ figureOf (drop from (now (s .entry))) ⌝ }
-{
-    if s.len() <= from {
-        return Figure::Other;
-    }
-    let mut n: u32 = 0;
-    let mut i = from;
-    while i < s.len() {
-        let b = s[i];
-        if b < b'0' {
-            return Figure::Other;
-        }
-        if b'9' < b {
-            return Figure::Other;
-        }
-        n = more(n, b);
-        i += 1;
-    }
-    Figure::Digits(n)
-}
-
 // Whether a zero stands at a place, in front of another byte.
 fn zero_leads(s: &[u8], from: usize) -> bool
     ensures { λ r. ⌜ r ≡ zeroLeads (drop from (now (s .entry))) ⌝ }
@@ -361,73 +322,33 @@ fn zero_leads(s: &[u8], from: usize) -> bool
 pub fn number(s: &[u8], from: usize) -> Numeral
     ensures { λ r. ⌜ r ≡ numberOf (drop from (now (s .entry))) ⌝ }
 {
+    if s.len() <= from {
+        return Numeral::Wrong;
+    }
     if zero_leads(s, from) {
         return Numeral::Wrong;
     }
-    let read = figures(s, from);
-    match read {
-        Figure::Other => Numeral::Wrong,
-        Figure::Digits(n) => {
-            if n == 65536 {
-                return Numeral::Wrong;
-            }
-            Numeral::Value(n as u16)
-        }
-    }
-}
-
-// The end of the line that starts at a place: its newline, or the text's end.
-pub fn line_end(text: &[u8], from: usize) -> usize
-    ensures { λ r. ⌜ r ≡ lineEnd (now (text .entry)) from ⌝ }
-{
+    let mut n: u32 = 0;
     let mut i = from;
-    while i < text.len() {
-        if text[i] == b'\n' {
-            return i;
+    while i < s.len() {
+        let b = s[i];
+        if b < b'0' {
+            return Numeral::Wrong;
+        }
+        if b'9' < b {
+            return Numeral::Wrong;
+        }
+        n = n * 10 + (b - b'0') as u32;
+        if 65535 < n {
+            return Numeral::Wrong;
         }
         i += 1;
     }
-    i
-}
-
-// A blank, a tab or a carriage return.
-pub fn is_blank(b: u8) -> bool
-    ensures { λ r. ⌜ r ≡ isBlank b ⌝ }
-{
-    if b == b' ' {
-        return true;
-    }
-    if b == b'\t' {
-        return true;
-    }
-    b == b'\r'
-}
-
-// The place after the blanks from a place on, or after the bytes that are none.
-fn past(line: &[u8], at: usize, blank: bool) -> usize
-    ensures { λ r. ⌜ r ≡ at + run blank (drop at (now (line .entry))) ⌝ }
-{
-    let mut i = at;
-    while i < line.len() {
-        if is_blank(line[i]) != blank {
-            return i;
-        }
-        i += 1;
-    }
-    i
-}
-
-// The next word of a line from a place on; an empty one where none is left.
-pub fn next_word(line: &[u8], at: usize) -> Span
-    ensures { λ r. ⌜ r ≡ wordFrom (now (line .entry)) at ⌝ }
-{
-    let start = past(line, at, true);
-    let end = past(line, start, false);
-    Span { start, end }
+    Numeral::Value(n as u16)
 }
 
 // Whether a line starts with a word.
-pub fn begins(line: &[u8], word: &[u8]) -> bool
+fn begins(line: &[u8], word: &[u8]) -> bool
     ensures { λ r. ⌜ r ≡ begins (now (word .entry)) (now (line .entry)) ⌝ }
 {
     if line.len() < word.len() {

@@ -8,7 +8,7 @@ use mathlib.Core.List.{List, [], _++_, append-nil}
 use mathlib.Core.Logic.{_⊎_, ⊎-elim}
 use lib.Dec.{ltb, leb, eqb}
 use lib.ListN.{length, getD, take, drop, length-append, length-take, length-drop, drop-of-length-le, List·getD-append}
-use lib.Seq.{take-length, drop-drop, length-take-le, getD-take, getD-drop, getD-append-add}
+use lib.Seq.{take-length, take-append-seam, drop-drop, length-take-le, getD-take, getD-drop, getD-append-add}
 use borrow.Author.Tests.{lt-leb, le-leb, eq-eqb, ne-eqb, leb-true, leb-false, eqb-true, eqb-false, not-false}
 use Rattle.memory.specs.declared.Addressed.{Addressed}
 use Rattle.memory.specs.declared.Addressed.the-variants.{Known, Nowhere}
@@ -126,6 +126,10 @@ in-second xs ys i h =
 spent : (n : ℕ) (x : List ℕ) → drop n (take n x) ≡ []
 spent n x = drop-of-length-le (take n x) {i = n} (simp length-take (omega arith))
 
+-- the first bytes of a block that a copy was laid over are those that were copied
+pub front : (s block copy : List ℕ) (n : ℕ) → n ≡ length s → copy ≡ take (length s) s ++ drop (length s) block → take n copy ≡ s
+front s block copy n e f = rw (e, f, take-length s) (take-append-seam s (drop (length s) block))
+
 -- bytes laid over a table from an offset on
 abbrev pub laid : List ℕ → ℕ → List ℕ → List ℕ
 laid t at d = take at t ++ (d ++ drop (at + length d) t)
@@ -151,10 +155,10 @@ module _ (t : List ℕ) (at : ℕ) (d : List ℕ) where
 
   -- a copy of d over the part of its length from at on leaves what a write leaves
   pub copied : (l : List ℕ) → at + length d ≤ length t
-      → l ≡ take (length d) d ++ drop (length d) (take (at + length d - at) (drop at t))
+      → l ≡ d ++ drop (length d) (take (at + length d - at) (drop at t))
       → take at t ++ (l ++ drop (at + length d - at) (drop at t)) ≡ written t at d
   copied l h e =
-      simp (e, add-sub-cancel-left at (length d), take-length d, spent (length d) (drop at t), append-nil, drop-drop) (sym (fitting h))
+      simp (e, add-sub-cancel-left at (length d), spent (length d) (drop at t), append-nil, drop-drop) (sym (fitting h))
 
   -- the bytes in front of, from the start of and behind the part that was written
   module _ (i : ℕ) (h : at + length d ≤ length t) where

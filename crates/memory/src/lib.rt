@@ -1,12 +1,19 @@
 // The two tables in memory: places, addresses, ranges that lie wholly in one table, the part that a range shows and
 // the write of a packet's bytes into it.
 ghost use mathlib.Core.Path.{_≡_};
-ghost use Rattle.memory.specs.Memory.{placeOf, addressOf, rangeOf, rangeAt, within, isWrong, tablesWrong, windowCode, windowPart, written, seqsWritten, listsWritten, entryOf, listOf};
+ghost use mathlib.Core.List.{_++_};
+ghost use Prim.Native.Nat.{_≤_};
+ghost use lib.ListN.{length, drop};
+ghost use Rattle.memory.specs.Memory.{placeOf, addressOf, rangeOf, rangeFrom, rangeAt, within, isWrong, partOf, tablesWrong, windowCode, windowPart, written, seqsWritten, listsWritten, entryOf, listOf};
 
 // The sequence table: 128 entries of 128 bytes, from 0x070000.
 pub const SEQUENCES: usize = 128;
 
+pub const LAST_SEQUENCE: u8 = (SEQUENCES - 1) as u8;
+
 pub const SEQUENCE_SIZE: usize = 128;
+
+pub const LAST_PLACE: u8 = (SEQUENCE_SIZE - 1) as u8;
 
 pub const SEQUENCE_TABLE: usize = 16384;
 
@@ -14,6 +21,8 @@ pub const SEQUENCE_ADDRESS: u32 = 0x070000;
 
 // The line lists: 48 entries of 164 bytes, from 0x074000.
 pub const LINE_LISTS: usize = 48;
+
+pub const LAST_LINE_LIST: u8 = (LINE_LISTS - 1) as u8;
 
 pub const LINE_LIST_SIZE: usize = 164;
 
@@ -25,7 +34,7 @@ pub const LINE_LIST_ADDRESS: u32 = 0x074000;
 const PAST: u32 = 0x075EC0;
 
 // The longest part that the desk may ask for, and the least output that is lent.
-pub const LONGEST: usize = 16384;
+pub const LONGEST: usize = SEQUENCE_TABLE;
 
 // A place in a sequence. Only `Place::of` makes one.
 pub struct Place(u8);
@@ -41,7 +50,7 @@ impl Place {
     pub fn of(number: u8) -> Placed
         ensures { λ r. ⌜ r ≡ placeOf number ⌝ }
     {
-        if number < 128 {
+        if number <= LAST_PLACE {
             Placed::At(Place(number))
         } else {
             Placed::Outside
@@ -89,7 +98,7 @@ pub enum Range {
 
 impl Range {
     // Whether the range is in no table.
-    fn is_wrong(self) -> bool
+    pub fn is_wrong(self) -> bool
         ensures { λ r. ⌜ r ≡ isWrong self ⌝ }
     {
         match self {
@@ -137,15 +146,23 @@ impl Address {
     }
 }
 
+impl Addressed {
+    // The range of a length from what the test of an address found: from nowhere none.
+    pub fn range(self, len: usize) -> Range
+        ensures { λ r. ⌜ r ≡ rangeFrom self len ⌝ }
+    {
+        match self {
+            Addressed::Known(address) => address.range(len),
+            Addressed::Nowhere => Range::Wrong,
+        }
+    }
+}
+
 // The range of a length from an address that may be any number.
 pub fn range_at(address: u32, len: usize) -> Range
     ensures { λ r. ⌜ r ≡ rangeAt address len ⌝ }
 {
-    let found = Address::of(address);
-    match found {
-        Addressed::Nowhere => Range::Wrong,
-        Addressed::Known(a) => a.range(len),
-    }
+    Address::of(address).range(len)
 }
 
 // Whether a lent table has a wrong size.
@@ -156,6 +173,17 @@ pub fn tables_wrong(seqs: &[u8], lists: &[u8]) -> bool
         return true;
     }
     lists.len() != LINE_LIST_TABLE
+}
+
+// A range's own bytes in its table; a wrong range has none.
+pub fn part_of<'a>(seqs: &'a [u8], lists: &'a [u8], len: usize, range: Range) -> &'a [u8]
+    ensures { λ r. ⌜ now r ≡ partOf (now (seqs .entry)) (now (lists .entry)) len range ⌝ }
+{
+    match range {
+        Range::Sequences(at) => octets::part(seqs, at, len),
+        Range::LineLists(at) => octets::part(lists, at, len),
+        Range::Wrong => &seqs[..0],
+    }
 }
 
 // The code beside the part that the desk asks for: 16 for wrong tables, then 7, else 0.
@@ -177,12 +205,22 @@ pub fn window<'a>(seqs: &'a [u8], lists: &'a [u8], address: u32, len: usize) -> 
     if window_code(seqs, lists, address, len) != 0 {
         return &seqs[..0];
     }
-    let range = range_at(address, len);
-    match range {
-        Range::Sequences(at) => octets::part(seqs, at, len),
-        Range::LineLists(at) => octets::part(lists, at, len),
-        Range::Wrong => &seqs[..0],
+    part_of(seqs, lists, len, range_at(address, len))
+}
+
+// Copies bytes over the start of others. They go by way of a block of our own, which overlaps no lent slice: so the
+// compiler makes one block move of both copies, where a copy from one lent slice to another stays a loop.
+fn copy(src: &[u8], dst: &mut [u8])
+    requires { ⌜ length (now src) ≤ length (now dst) ⌝ }
+    ensures { λ _. ⌜ now (dst .exit) ≡ now (src .entry) ++ drop (length (now (src .entry))) (now (dst .entry)) ⌝ }
+{
+    if LONGEST < src.len() {
+        bytes::copy(src, dst);
+        return;
     }
+    let mut block = [0u8; LONGEST];
+    let n = bytes::copy(src, &mut block);
+    bytes::copy(&block[..n], dst);
 }
 
 // Writes bytes over a table from an offset on; where they do not fit, nothing.
@@ -196,7 +234,7 @@ pub fn write(table: &mut [u8], at: usize, src: &[u8])
         return;
     }
     let end = at + src.len();
-    bytes::copy(src, &mut table[at..end]);
+    copy(src, &mut table[at..end]);
 }
 
 // Writes a packet's bytes into a range; a wrong range is written nowhere.

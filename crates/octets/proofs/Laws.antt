@@ -4,14 +4,14 @@ use Prim.Native.Nat.{ℕ, zero, suc, _+_, _-_, _≤_, _<_}
 use native.Mathlib.Nat.{add-sub-cancel-left}
 use native.Mathlib.Numerals.{add-one}
 use native.Mathlib.Omega.{arith}
-use mathlib.Core.Path.{_≡_, refl, sym, ap, _∙_, subst}
-use mathlib.Core.Bool.{Bool, true, false, cond, _&&_, true≢false}
+use mathlib.Core.Path.{_≡_, refl, sym, ap, ap₂, _∙_, subst}
+use mathlib.Core.Bool.{Bool, true, false, cond, not, _&&_, true≢false}
 use mathlib.Core.List.{List, [], _∷_, _++_}
 use mathlib.Core.Logic.{_⊎_, inl, inr, _↔_}
-use lib.Dec.{T, ltb}
+use lib.Dec.{T, ltb, eqb}
 use lib.ListN.{length, getD, take, drop, length-drop, drop-of-length-le, List·getD-eq-default}
 use lib.Seq.{drop-cons, take-all}
-use borrow.Author.Tests.{ltb-true}
+use borrow.Author.Tests.{ltb-true, ne-eqb}
 use Rattle.octets.specs.Bytes.{byteAt, wordAt, tripleAt, xorOn}
 use Rattle.octets.specs.Rows.{Row, row, firstCode, NoneHolds, FirstBears, coded}
 
@@ -57,7 +57,7 @@ xor-append x [] b = refl
 xor-append x (y ∷ a) b = xor-append (lib.Bits.bitXor x y) a b
 
 -- ── ordered rows
-and-true : (a b : Bool) → T (a && b) → (a ≡ true) × T b
+pub and-true : (a b : Bool) → T (a && b) → (a ≡ true) × T b
 and-true true b p = (refl, p)
 and-true false b p = absurd p
 
@@ -97,3 +97,17 @@ bears-first (r ∷ rs) k (inr (h, f)) = rw h (bears-first rs k f)
 
 pub code-exactly : (rs : List Row) (k : ℕ) → 0 < k → (firstCode rs ≡ k) ↔ FirstBears k rs
 code-exactly rs k h = (first-bears rs k h, bears-first rs k)
+
+-- the first code of two tables, one after the other: that of the first where a row of it holds, else that of the second
+row-joined : (c n m k : ℕ) (t : Bool) → 0 < c → cond (not (eqb n 0)) n k ≡ m → cond (not (eqb (cond t c n) 0)) (cond t c n) k ≡ cond t c m
+row-joined c n m k true h e = rw (ne-eqb c 0 (λ z. omega arith))
+row-joined c n m k false h e = e
+
+joined : (xs ys : List Row) → T (coded xs) → cond (not (eqb (firstCode xs) 0)) (firstCode xs) (firstCode ys) ≡ firstCode (xs ++ ys)
+joined [] ys p = refl
+joined (r ∷ rs) ys p =
+    let (h, q) = and-true (ltb 0 (r .code)) (coded rs) p in
+    row-joined (r .code) (firstCode rs) (firstCode (rs ++ ys)) (firstCode ys) (r .holds) (ltb-true 0 (r .code) h) (joined rs ys q)
+
+pub first-joined : (xs ys : List Row) → T (coded xs) → (c d r : ℕ) → r ≡ cond (not (eqb c 0)) c d → c ≡ firstCode xs → d ≡ firstCode ys → r ≡ firstCode (xs ++ ys)
+first-joined xs ys p c d r e f g = e ∙ ap₂ (λ (m n : ℕ). cond (not (eqb m 0)) m n) f g ∙ joined xs ys p

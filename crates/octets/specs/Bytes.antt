@@ -1,5 +1,5 @@
--- Bytes, words high byte first, and the XOR of bytes.
-use Prim.Native.Nat.{ℕ, _+_, _*_}
+-- Bytes, words high byte first, in and out, and the XOR of bytes.
+use Prim.Native.Nat.{ℕ, _+_, _*_, _/_, _%_, _^_}
 use mathlib.Core.List.{List, [], _∷_}
 use lib.ListN.{getD}
 use lib.Bits.{bitXor}
@@ -15,6 +15,33 @@ wordAt s at = byteAt s at * 256 + byteAt s (at + 1)
 -- three bytes, high byte first
 abbrev pub tripleAt : List ℕ → ℕ → ℕ
 tripleAt s at = byteAt s at * 65536 + wordAt s (at + 1)
+
+-- four bytes, high byte first
+abbrev pub fourAt : List ℕ → ℕ → ℕ
+fourAt s at = byteAt s at * 16777216 + tripleAt s (at + 1)
+
+-- words of two, four and eight bytes, high byte first
+abbrev pub two : ℕ → List ℕ
+two n = n / 256 % 256 ∷ n % 256 ∷ []
+
+abbrev pub four : ℕ → List ℕ
+four n = n / 16777216 % 256 ∷ n / 65536 % 256 ∷ n / 256 % 256 ∷ n % 256 ∷ []
+
+abbrev pub eight : ℕ → List ℕ
+eight n =
+    n / 2 ^ 56 % 256
+    ∷ n / 2 ^ 48 % 256
+    ∷ n / 2 ^ 40 % 256
+    ∷ n / 2 ^ 32 % 256
+    ∷ n / 2 ^ 24 % 256
+    ∷ n / 2 ^ 16 % 256
+    ∷ n / 2 ^ 8 % 256
+    ∷ n % 256
+    ∷ []
+
+-- "bits 0-3" and "bits 4-7": bit 0 is the most significant
+abbrev pub halves : ℕ → ℕ → ℕ
+halves a b = a % 16 * 16 + b % 16
 
 -- the XOR of a number and every byte
 unfoldable pub xorOn : ℕ → List ℕ → ℕ

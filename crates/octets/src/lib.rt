@@ -1,6 +1,7 @@
 // Bytes of a lent slice, read by anyone at any place: past the end stands 0. Words are unsigned, high byte first.
+ghost use Prim.Native.Nat.{_+_, _*_};
 ghost use mathlib.Core.Path.{_≡_};
-ghost use mathlib.Core.Bool.{cond};
+ghost use mathlib.Core.Bool.{cond, _||_};
 ghost use lib.ListN.{take, drop};
 ghost use Rattle.octets.specs.Bytes.{byteAt, wordAt, tripleAt, xorOn};
 
@@ -9,6 +10,13 @@ pub fn byte(s: &[u8], at: usize) -> u8
     ensures { λ r. ⌜ r ≡ byteAt (now (s .entry)) at ⌝ }
 {
     if at < s.len() { s[at] } else { 0 }
+}
+
+// The word of two bytes, high byte first.
+pub fn pair(high: u8, low: u8) -> u16
+    ensures { λ r. ⌜ r ≡ high * 256 + low ⌝ }
+{
+    high as u16 * 256 + low as u16
 }
 
 // The word at a place, high byte first.
@@ -64,4 +72,11 @@ pub fn refuse(test: bool, code: u8, rest: u8) -> u8
     ensures { λ r. ⌜ r ≡ cond test code rest ⌝ }
 {
     if test { code } else { rest }
+}
+
+// Whether a test holds or any of the rest does.
+pub fn either(test: bool, rest: bool) -> bool
+    ensures { λ r. ⌜ r ≡ (test || rest) ⌝ }
+{
+    if test { true } else { rest }
 }

@@ -3,9 +3,14 @@
 use Prim.Native.Nat.{ℕ, _≤_, _<_}
 use native.Mathlib.Omega.{arith}
 use mathlib.Core.Path.{_≡_, refl, sym, ap, subst}
+use mathlib.Core.Bool.{Bool, true, false, cond, _&&_}
+use mathlib.Core.List.{List, [], _∷_}
 use mathlib.Core.Logic.{_⊎_, inl, inr}
 use borrow.Author.Tests.{lt-leb, ne-eqb}
+use Rattle.octets.specs.Rows.{Row, firstCode}
+use Rattle.sequence.specs.Starts.{among}
 use Rattle.sequence.specs.Env.{envOf}
+use Rattle.sequence.proofs.Laws.{and-both}
 use Rattle.runner.specs.declared.Event.the-variants.{Idle}
 use Rattle.runner.specs.declared.Stepped.{Stepped}
 use Rattle.runner.specs.Step.{to}
@@ -14,29 +19,61 @@ use Rattle.unit.specs.declared.Unit.{Unit as ControlUnit}
 use Rattle.unit.specs.declared.Outcome.the-variants.{Denied, Saw}
 use Rattle.unit.specs.declared.UnitStep.{UnitStep}
 use Rattle.unit.specs.State.{withLedger, failed}
-use Rattle.unit.specs.Packet.{codeOf}
+use Rattle.unit.specs.declared.Kind.{Kind}
+use Rattle.unit.specs.declared.Kind.the-variants.{Status, Dump, Allow, Mode, Clear, Select, Uplink, Foreign, Unheard}
+use Rattle.unit.specs.Packet.{kindOf, ownRows, packetRows, codeOf}
 use Rattle.unit.specs.Answer.{refusedUnit, unitAfter, replyOf, answerOf}
 use Rattle.unit.specs.Step.{taken}
-use Rattle.unit.proofs.Laws.{own-codes, sixteen-on}
+use Rattle.unit.proofs.Laws.{sixteen-on}
 use Rattle.unit.proofs.Laws.{refused-keeps as kept}
-use Rattle.promises.specs.Sent.{Sent, code, after, TablesKept, NoAnswer}
-use Rattle.promises.specs.Demand1.{NoOtherCode, Refused, RefusedKeeps, Unchanged, SixteenKeeps, SeventeenKeeps, DeniedKeeps, IdleKeeps}
-use Rattle.promises.proofs.Exactly.{step-case}
-use Rattle.promises.proofs.Faults.{idle-stops}
+use Rattle.promises.specs.Library.{ours}
+use Rattle.promises.specs.Runs.{idle}
+use Rattle.promises.specs.Sent.{Sent, code, after, bc1, TablesKept, NoAnswer}
+use Rattle.promises.specs.Demand1.{answers, NoOtherCode, Refused, RefusedKeeps, Unchanged, SixteenKeeps, SeventeenKeeps, DeniedKeeps, IdleKeeps}
+use Rattle.promises.proofs.Run.Events.{outcome-shown}
+use Rattle.promises.proofs.Packets.Exactly.{step-case}
+use Rattle.promises.proofs.Run.Faults.{idle-stops}
 
-pub no-other-code : NoOtherCode
-unfolding answerOf
-no-other-code s = own-codes (s .unit) (s .seqs) (s .lists) (s .out) (s .bytes)
+-- ── the codes
+-- the code of each row is among the answers
+abbrev coded : List Row → Bool
+coded [] = true
+coded (r ∷ rs) = among (r .code) answers && coded rs
+
+first-coded : (rs : List Row) → coded rs ≡ true → among (firstCode rs) answers ≡ true
+unfolding among
+first-coded [] h = refl
+first-coded (r ∷ rs) h = let (a, b) = and-both (among (r .code) answers) (coded rs) h in go (r .holds) a (first-coded rs b)
+  where
+    go : (t : Bool) → among (r .code) answers ≡ true → among (firstCode rs) answers ≡ true → among (cond t (r .code) (firstCode rs)) answers ≡ true
+    go true a b = a
+    go false a b = b
+
+own-coded : (k : Kind) (u : ControlUnit) (p : List ℕ) → coded (ownRows k u p) ≡ true
+unfolding ownRows among
+own-coded Status u p = refl
+own-coded Dump u p = refl
+own-coded Allow u p = refl
+own-coded Mode u p = refl
+own-coded Clear u p = refl
+own-coded Select u p = refl
+own-coded Uplink u p = refl
+own-coded Foreign u p = refl
+own-coded Unheard u p = refl
+
+pub no-other-code : NoOtherCode ours
+unfolding answerOf codeOf packetRows among
+no-other-code s = first-coded (packetRows (s .unit) (s .seqs) (s .lists) (s .out) (s .bytes)) (own-coded (kindOf (bc1 s)) (s .unit) (s .bytes))
 
 -- ── a packet that is not obeyed
-module _ (s : Sent) (refused : code s ≡ 0 → ⊥) where
-  keeps-tables : TablesKept s
+module _ (s : Sent) (refused : code ours s ≡ 0 → ⊥) where
+  keeps-tables : TablesKept ours s
   unfolding answerOf
   keeps-tables =
       let k = kept (s .unit) (s .seqs) (s .lists) (s .out) (s .bytes) (s .time) refused in
       record { sequences = k .sequences; lineLists = k .linelists }
 
-  says-nothing : NoAnswer s
+  says-nothing : NoAnswer ours s
   unfolding answerOf replyOf
   says-nothing =
       let c = codeOf (s .unit) (s .seqs) (s .lists) (s .out) (s .bytes) in
@@ -45,34 +82,34 @@ module _ (s : Sent) (refused : code s ≡ 0 → ⊥) where
         output = kept (s .unit) (s .seqs) (s .lists) (s .out) (s .bytes) (s .time) refused .output;
       }
 
-module _ (s : Sent) (some : 0 < code s) (below : code s < 16) where
-  counted-failed : after s ≡ withLedger (failed (s .bytes) (code s) (s .unit .ledger)) (s .unit)
+module _ (s : Sent) (some : 0 < code ours s) (below : code ours s < 16) where
+  counted-failed : after ours s ≡ withLedger (failed (s .bytes) (code ours s) (s .unit .ledger)) (s .unit)
   unfolding answerOf unitAfter refusedUnit
   counted-failed =
       let c = codeOf (s .unit) (s .seqs) (s .lists) (s .out) (s .bytes) in
       simp (ne-eqb c 0 (λ z. omega arith), lt-leb 16 c below)
 
-pub refused-keeps : RefusedKeeps
+pub refused-keeps : RefusedKeeps ours
 refused-keeps s some below = (
-  subst (Refused (s .bytes) (code s) (s .unit)) (sym (counted-failed s some below))
+  subst (Refused (s .bytes) (code ours s) (s .unit)) (sym (counted-failed s some below))
       (record { received = refl; failed = refl; number = refl; code = refl; log = refl; control = refl; watch = refl; runner = refl }),
   keeps-tables s (λ z. omega arith),
   says-nothing s (λ z. omega arith),
 )
 
-nothing-changed : (s : Sent) → 16 ≤ code s → Unchanged s
+nothing-changed : (s : Sent) → 16 ≤ code ours s → Unchanged ours s
 unfolding answerOf
 nothing-changed s h =
     (sixteen-on (s .unit) (s .seqs) (s .lists) (s .out) (s .bytes) h, keeps-tables s (λ z. omega arith), says-nothing s (λ z. omega arith))
 
-pub sixteen-keeps : SixteenKeeps
+pub sixteen-keeps : SixteenKeeps ours
 sixteen-keeps s e = nothing-changed s (omega arith)
 
-pub seventeen-keeps : SeventeenKeeps
+pub seventeen-keeps : SeventeenKeeps ours
 seventeen-keeps s e = nothing-changed s (omega arith)
 
 -- ── steps
-pub denied-keeps : DeniedKeeps
+pub denied-keeps : DeniedKeeps ours
 unfolding taken
 denied-keeps u seqs lists c =
     step-case (λ (x : UnitStep). x .outcome ≡ Denied c → ((c ≡ 16) ⊎ (c ≡ 17)) × (x .unit ≡ u)) u seqs lists
@@ -85,11 +122,11 @@ taken-idle : (u : ControlUnit) (r : Stepped) → r ≡ to Idle (u .runner) → t
 unfolding taken
 taken-idle u r e = ap (λ (x : Stepped). taken u x .unit) e
 
-pub idle-keeps : IdleKeeps
+pub idle-keeps : IdleKeeps ours
 unfolding taken
-idle-keeps u seqs lists =
+idle-keeps u seqs lists h =
     let E = envOf lists in
     step-case (λ (x : UnitStep). x .outcome ≡ Saw Idle → x .unit ≡ u) u seqs lists
     (λ e. taken-idle u _ (sym (step-idle E seqs (u .runner) (idle-stops E seqs (u .runner) (cc)))))
     (λ e. refl)
-    (λ e. refl)
+    (λ e. refl) (outcome-shown (ours .steps u seqs lists .outcome) idle h refl)

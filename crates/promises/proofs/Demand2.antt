@@ -11,27 +11,35 @@ use Rattle.runner.specs.Step.{aborted}
 use Rattle.unit.specs.declared.Unit.{Unit as ControlUnit}
 use Rattle.unit.specs.declared.Outcome.the-variants.{Saw}
 use Rattle.unit.specs.declared.UnitStep.{UnitStep}
+use Rattle.unit.specs.State.{powerOn}
 use Rattle.unit.specs.Packet.{packetRows, codeOf}
 use Rattle.unit.specs.Answer.{answerOf}
 use Rattle.unit.specs.Step.{taken}
 use Rattle.unit.proofs.Laws.{accepted}
-use Rattle.promises.specs.Demand2.{AcceptedExactly, CodeExactly, Aborted, AbortKeeps}
-use Rattle.promises.proofs.Exactly.{step-case}
-use Rattle.promises.proofs.Faults.{abort-faults}
-pub use Rattle.promises.proofs.Tests.{range-exactly}
-pub use Rattle.promises.proofs.Needs.{obeyed-exactly}
-pub use Rattle.promises.proofs.Effects.{effect-01, status-block, effect-20, stays-allowed, effect-21, effect-23, effect-83}
-pub use Rattle.promises.proofs.Transfers.{effect-07, effect-E7}
-pub use Rattle.promises.proofs.Exactly.{step-accepted-exactly, step-code-exactly, step-takes, step-keeps, check-exactly, window-code-exactly, window-exactly, window-shows}
-pub use Rattle.promises.proofs.Faults.{idle-exactly, abort-exactly}
+use Rattle.promises.specs.Library.{ours}
+use Rattle.promises.specs.Runs.{aborts}
+use Rattle.promises.specs.Demand2.{AcceptedExactly, CodeExactly, PowersOn, Aborted, AbortKeeps}
+use Rattle.promises.proofs.Run.Events.{outcome-shown}
+use Rattle.promises.proofs.Packets.Exactly.{step-case}
+use Rattle.promises.proofs.Run.Faults.{abort-faults}
+pub use Rattle.promises.proofs.Packets.Tests.{range-exactly}
+pub use Rattle.promises.proofs.Packets.Needs.{obeyed-exactly}
+pub use Rattle.promises.proofs.Packets.Effects.{effect-01, status-block, effect-20, stays-allowed, effect-21, effect-23, effect-83}
+pub use Rattle.promises.proofs.Packets.Transfers.{effect-07, effect-E7}
+pub use Rattle.promises.proofs.Packets.Exactly.{step-accepted-exactly, step-code-exactly, step-takes, step-keeps, check-exactly, window-code-exactly, window-exactly, window-shows}
+pub use Rattle.promises.proofs.Run.Faults.{idle-exactly, abort-exactly}
 
-pub accepted-exactly : AcceptedExactly
+pub accepted-exactly : AcceptedExactly ours
 unfolding answerOf
 accepted-exactly s = accepted (s .unit) (s .seqs) (s .lists) (s .out) (s .bytes)
 
-pub code-exactly : CodeExactly
+pub code-exactly : CodeExactly ours
 unfolding answerOf codeOf
 code-exactly s = first-exactly (packetRows (s .unit) (s .seqs) (s .lists) (s .out) (s .bytes))
+
+pub powers-on : PowersOn ours
+unfolding powerOn
+powers-on = refl
 
 -- an abort taken into the unit
 taken-abort : (u : ControlUnit) (r : Stepped) (c n p : ℕ) → n ≡ u .runner .sequence → r ≡ aborted c p (u .runner) → Aborted c n p u (taken u r .unit)
@@ -40,11 +48,11 @@ taken-abort u r c n p e f =
     subst (λ (x : Stepped). Aborted c n p u (taken u x .unit)) (sym f)
     (record { sequence = e; runner = refl; abort = refl; exposures = refl; list = refl; ledger = refl; control = refl })
 
-pub abort-keeps : AbortKeeps
+pub abort-keeps : AbortKeeps ours
 unfolding taken
-abort-keeps u seqs lists c n p =
+abort-keeps u seqs lists c n p h =
     let E = envOf lists in
     step-case (λ (x : UnitStep). x .outcome ≡ Saw (Abort c n p) → Aborted c n p u (x .unit)) u seqs lists
     (λ e. let f = abort-faults E seqs (u .runner) c n p (cc) in taken-abort u _ c n p (f .sequence) (f .whole))
     (λ e. let z : _≡_ {A = ℕ} 0 1 = cc in absurd (omega arith))
-    (λ e. let z : _≡_ {A = ℕ} 0 1 = cc in absurd (omega arith))
+    (λ e. let z : _≡_ {A = ℕ} 0 1 = cc in absurd (omega arith)) (outcome-shown (ours .steps u seqs lists .outcome) (aborts c n p) h refl)

@@ -1,119 +1,146 @@
 -- Demand 3: the unit keeps what the table check tells. Assumes nothing.
-use Prim.Native.Nat.{ℕ, suc, _≤_}
+use Prim.Native.Nat.{ℕ, _≤_}
 use native.Mathlib.Omega.{arith}
 use mathlib.Core.Path.{_≡_, refl, sym, ap, _∙_, subst, subst₂}
 use mathlib.Core.Bool.{true, true≢false}
-use mathlib.Core.List.{List, [], _∷_}
+use mathlib.Core.List.{List}
 use mathlib.Core.Logic.{inl, inr}
 use lib.ListN.{length}
 use Rattle.sequence.specs.Starts.{among}
 use Rattle.sequence.specs.Env.{envOf}
-use Rattle.survey.specs.declared.Ending.the-variants.{Returns, Faulty}
+use Rattle.runner.specs.declared.Runner.{Runner}
+use Rattle.survey.specs.declared.Ending.the-variants.{Returns}
 use Rattle.survey.specs.Chain.{Told, chainOf, checkOf}
+use Rattle.survey.specs.Report.{endingShown}
 use Rattle.unit.specs.declared.Outcome.{Outcome}
 use Rattle.promises.specs.Runs.{AtDoor, afterSteps}
 use Rattle.promises.specs.Positions.{NonePast}
 use Rattle.promises.specs.Kept.{IsPassed}
-use Rattle.promises.specs.Subjects.{theCheck}
-use Rattle.promises.specs.Demand3.{World, Action, step, packet, after, afterAll, outcomes, Reached, acted, selecting, starting, AboutToEnter, NeverCalledBack, eventsOf, exposedAt, Works, FirstThen, GoesOn, RunsAsTold, KeepsPassed, KeepsFaulted, HasAnswer, Demand3, Passed, Faulted, Returning}
-use Rattle.promises.proofs.Chains.{chainEnd, fair-base, check-is}
-use Rattle.promises.proofs.Laps.{listed-passes}
-use Rattle.promises.proofs.Steady.{steady, tables-right}
-use Rattle.promises.proofs.Starts.{selects, starts}
-use Rattle.promises.proofs.Between.{stepsIn, Over, Went, between, in-reach}
-use Rattle.promises.proofs.AsTold.{as-told, aborts, answered, returns-at}
+use Rattle.promises.specs.Library.{ours}
+use Rattle.promises.specs.Demand3.{World, Action, packet, after, afterAll, outcomes, Reached, selecting, starting, AboutToEnter, NeverCalledBack, lastOf, Calling, Chain, Lists, eventsOf, exposedAt, Works, FirstThen, ComesBack, AbortsAt, RunsAsTold, KeepsPassed, KeepsFaulted, Demand3, Passed, Faulted, Again, Returning}
+use Rattle.promises.proofs.Run.Events.{back-so, fault-so, passed-so}
+use Rattle.promises.proofs.Chain.Chains.{chainEnd, fair-base, check-is}
+use Rattle.promises.proofs.Chain.Laps.{listed-passes}
+use Rattle.promises.proofs.Chain.Names.{chain-lists}
+use Rattle.promises.proofs.Chain.Unique.{comes-again}
+use Rattle.promises.proofs.Packets.Actions.{stepsIn, reached-all, steps-taken}
+use Rattle.promises.proofs.Range.Steady.{steady, tables-right}
+use Rattle.promises.proofs.Packets.Starts.{selects, starts}
+use Rattle.promises.proofs.Packets.Between.{Over, Went, between, in-reach}
+use Rattle.promises.proofs.Chain.AsTold.{as-told, aborts, returns-at}
 
 -- ── the check, part by part
-module _ (n : ℕ) (s : World) (r : Reached s) (h : n ≤ 127) where
+module _ (n : ℕ) (s : World) (r : Reached ours s) (h : n ≤ 127) where
   abbrev chain : Told
   chain = chainOf (envOf (s .lists)) (s .seqs) n
 
   check-chain : checkOf (s .seqs) (s .lists) n ≡ chain
   check-chain = check-is (s .seqs) (s .lists) n (tables-right (steady r)) h
 
-  check-names : theCheck (s .seqs) (s .lists) n .names ≡ chain .names
+  check-names : ours .checks (s .seqs) (s .lists) n .names ≡ chain .names
   check-names = ap (λ (t : Told). t .names) check-chain
 
-  check-ending : theCheck (s .seqs) (s .lists) n .ending ≡ chain .ending
+  check-ending : ours .checks (s .seqs) (s .lists) n .ending ≡ chain .ending
   check-ending = ap (λ (t : Told). t .ending) check-chain
 
-  check-steps : theCheck (s .seqs) (s .lists) n .steps ≡ chain .steps
+  check-steps : ours .checks (s .seqs) (s .lists) n .steps ≡ chain .steps
   check-steps = let e = ap (λ (t : Told). t .steps) check-chain in omega arith
 
-  check-exposures : theCheck (s .seqs) (s .lists) n .exposures ≡ chain .exposures
+  check-exposures : ours .checks (s .seqs) (s .lists) n .exposures ≡ chain .exposures
   check-exposures = let e = ap (λ (t : Told). t .exposures) check-chain in omega arith
 
-  check-known : theCheck (s .seqs) (s .lists) n ≡ chain
+  check-known : ours .checks (s .seqs) (s .lists) n ≡ chain
   check-known = λ i. record { names = check-names i; ending = check-ending i; steps = check-steps i; exposures = check-exposures i }
 
 -- ── what is done to a unit that is about to enter sequence n
-went : (n : ℕ) (s : World) → AboutToEnter n s → (acts : List Action) → NeverCalledBack acts s → Went (s .seqs) (s .lists) acts s
+went : (n : ℕ) (s : World) → AboutToEnter ours n s → (acts : List Action) → NeverCalledBack ours acts s → Went (s .seqs) (s .lists) acts s
 went n s g acts x = between (s .seqs) (s .lists) acts s (steady (g .reached)) (g .auto) x (inl (refl, refl))
 
-pub passed : Passed
+pub passed : Passed ours
 passed n s g y acts x =
     let seen = went n s g acts x .shows in
     subst₂ (λ (t : Told) (os : List Outcome). RunsAsTold (s .seqs) t os) (sym (check-known n s (g .reached) (g .known))) (sym seen)
-    (as-told (s .lists) (s .seqs) n (s .unit .runner .mirror) (s .unit .runner) (g .known) (g .door) (subst IsPassed (check-ending n s (g .reached) (g .known)) y) (stepsIn acts)
+    (as-told (s .lists) (s .seqs) n (s .unit .runner .mirror) (s .unit .runner) (g .known) (g .door) (subst IsPassed (check-ending n s (g .reached) (g .known)) (passed-so (ours .checks (s .seqs) (s .lists) n .ending) y)) (stepsIn acts)
     (subst (λ (os : List Outcome). NonePast 2400 (exposedAt (eventsOf os))) seen (in-reach acts s (steady (g .reached)))))
 
-pub faulted : Faulted
+pub faulted : Faulted ours
 faulted n s g code q p y =
-    let (k, f) = aborts (s .lists) (s .seqs) n (s .unit .runner .mirror) (s .unit .runner) (g .known) (g .door) code q p (sym (check-ending n s (g .reached) (g .known)) ∙ y) in
-    (k, λ acts x. subst₂ (λ (names : List ℕ) (os : List Outcome). FirstThen k Works (GoesOn (Faulty code q p) names) os) (sym (check-names n s (g .reached) (g .known))) (sym (went n s g acts x .shows)) (f (stepsIn acts)))
+    let (k, f) = aborts (s .lists) (s .seqs) n (s .unit .runner .mirror) (s .unit .runner) (g .known) (g .door) code q p (sym (check-ending n s (g .reached) (g .known)) ∙ fault-so y) in
+    (k, λ acts x. subst (FirstThen k Works (AbortsAt code q p)) (sym (went n s g acts x .shows)) (f (stepsIn acts)))
 
-answers : (n : ℕ) (s : World) → AboutToEnter n s → HasAnswer (theCheck (s .seqs) (s .lists) n)
-answers n s g code y =
-    answered (s .lists) (s .seqs) n (s .unit .runner .mirror) (s .unit .runner) (g .known) (g .door) code (sym (check-ending n s (g .reached) (g .known)) ∙ y)
+pub lists-so : (n : ℕ) (s : World) → Reached ours s → n ≤ 127 → Lists (s .seqs) n (ours .checks (s .seqs) (s .lists) n)
+lists-so n s r h = subst (Lists (s .seqs) n) (sym (check-known n s r h)) (chain-lists (s .lists) (s .seqs) n h)
 
-pub demand3 : Demand3
+pub demand3 : Demand3 ours
 demand3 w r m n h out out′ room room′ time time′ =
-    let v = after (packet out time (selecting n)) w in
-    let s = after (packet out′ time′ starting) v in
+    let v = after ours (packet out time (selecting n)) w in
+    let s = after ours (packet out′ time′ starting) v in
     let (code, selected, vs, vl) = selects w r m n h out room time in
     let (code′, enters, ss, sl) = starts n v selected out′ room′ time′ in (
       code,
       code′,
-      subst₂ (λ (x y : List ℕ). HasAnswer (theCheck x y n)) (ss ∙ vs) (sl ∙ vl) (answers n s enters),
-      subst₂ (λ (x y : List ℕ). KeepsPassed (theCheck x y n) s) (ss ∙ vs) (sl ∙ vl) (passed n s enters),
-      subst₂ (λ (x y : List ℕ). KeepsFaulted (theCheck x y n) s) (ss ∙ vs) (sl ∙ vl) (faulted n s enters),
+      lists-so n w r h,
+      subst₂ (λ (x y : List ℕ). KeepsPassed ours (ours .checks x y n) s) (ss ∙ vs) (sl ∙ vl) (passed n s enters),
+      subst₂ (λ (x y : List ℕ). KeepsFaulted ours (ours .checks x y n) s) (ss ∙ vs) (sl ∙ vl) (faulted n s enters),
     )
 
 -- ── a chain that returns
-reached-all : (acts : List Action) {w : World} → Reached w → Reached (afterAll acts w)
-reached-all [] r = r
-reached-all (a ∷ acts) r = reached-all acts (acted a r)
+module _ (n : ℕ) (s : World) (g : AboutToEnter ours n s) (y : ComesBack (ours .checks (s .seqs) (s .lists) n .ending)) where
+  abbrev t : Told
+  t = ours .checks (s .seqs) (s .lists) n
 
-steps-taken : (acts : List Action) (w : World) → length (outcomes acts w) ≡ stepsIn acts
-steps-taken [] w = refl
-steps-taken (step ∷ acts) w = ap suc (steps-taken acts (after step w))
-steps-taken (packet out time bytes ∷ acts) w = steps-taken acts (after (packet out time bytes) w)
+  abbrev r : Runner
+  r = s .unit .runner
 
-pub returning : Returning
-returning n s g y acts x full =
-    let E = envOf (s .lists) in
-    let r = s .unit .runner in
-    let w = went n s g acts x in
-    let back : chainOf E (s .seqs) n .ending ≡ Returns = sym (check-ending n s (g .reached) (g .known)) ∙ y in
-    let (u, known, listed, door) = returns-at (s .lists) (s .seqs) n (r .mirror) r (g .known) (g .door) back in
-    let taken : stepsIn acts ≡ chainOf E (s .seqs) n .steps = sym (steps-taken acts s) ∙ full ∙ check-steps n s (g .reached) (g .known) in
-    let at = subst (AtDoor u (chainEnd E (s .seqs) (chainOf E (s .seqs) n .names) (r .mirror))) (sym (w .runner ∙ ap (λ (k : ℕ). afterSteps E (s .seqs) k r) taken)) door in
-    let (seqs, lists) = still-over acts (at .running) (w .over) in (
-      u,
-      subst (λ (names : List ℕ). among u names ≡ true) (sym (check-names n s (g .reached) (g .known))) listed,
-      record {
-        reached = reached-all acts (g .reached);
-        auto = w .auto;
-        door = record { running = at .running; entering = at .entering; sequence = at .sequence; place = at .place; raster = at .raster; mirror = refl };
-        known = known;
-      },
-      seqs,
-      lists,
-      subst IsPassed (sym (check-ending u s (g .reached) known))
-          (listed-passes E (fair-base (s .lists)) (s .seqs) n (g .known) (subst IsPassed (sym back) tt) u listed),
-    )
-  where
-    still-over : (acts : List Action) → afterAll acts s .unit .runner .running ≡ true → Over (s .seqs) (s .lists) (afterAll acts s)
-        → (afterAll acts s .seqs ≡ s .seqs) × (afterAll acts s .lists ≡ s .lists)
-    still-over acts e (inl t) = t
-    still-over acts e (inr z) = absurd (true≢false (sym e ∙ z))
+  back : chainOf (envOf (s .lists)) (s .seqs) n .ending ≡ Returns
+  back = sym (check-ending n s (g .reached) (g .known)) ∙ back-so y
+
+  -- the sequence that comes next
+  abbrev pub Next : ℕ → Type 0
+  Next m = (m ≤ 127) × (among m (t .names) ≡ true) × Calling (s .seqs) (lastOf 0 (t .names)) m
+      × AtDoor m (chainEnd (envOf (s .lists)) (s .seqs) (chainOf (envOf (s .lists)) (s .seqs) n .names) (r .mirror)) (afterSteps (envOf (s .lists)) (s .seqs) (chainOf (envOf (s .lists)) (s .seqs) n .steps) r)
+
+  pub next : (m : ℕ) × Next m
+  next =
+      let (u, known, listed, called, door) = returns-at (s .lists) (s .seqs) n (r .mirror) r (g .known) (g .door) back in
+      let names = sym (check-names n s (g .reached) (g .known)) in
+      (u, (known, subst (λ (ns : List ℕ). among u ns ≡ true) names listed, subst (λ (ns : List ℕ). Calling (s .seqs) (lastOf 0 ns) u) names called, door))
+
+  pub again : (m : ℕ) → Next m → Again ours (s .seqs) (s .lists) n m
+  again m (known, listed, called, door) =
+      let E = envOf (s .lists) in
+      let mine = lists-so n s (g .reached) (g .known) in
+      let its = lists-so m s (g .reached) known in
+      let well : IsPassed (ours .checks (s .seqs) (s .lists) m .ending) =
+      subst IsPassed (sym (check-ending m s (g .reached) known))
+      (listed-passes E (fair-base (s .lists)) (s .seqs) n (g .known) (subst IsPassed (sym back) tt) m (subst (λ (ns : List ℕ). among m ns ≡ true) (check-names n s (g .reached) (g .known)) listed)) in
+      let (once, part, returns) =
+      comes-again (s .seqs) n m (t .names) (ours .checks (s .seqs) (s .lists) m .names) (ours .checks (s .seqs) (s .lists) m .ending)
+      (subst (Chain (s .seqs) (t .names) n (t .names)) (back-so y) (mine .chain)) (mine .differ) called listed (its .chain) (its .differ) well in
+      record { called = called; once = once; part = part; returns = ap endingShown returns }
+
+  pub enters-next : (m : ℕ) → Next m → (acts : List Action) → NeverCalledBack ours acts s → length (outcomes ours acts s) ≡ t .steps
+      → AboutToEnter ours m (afterAll ours acts s) × (afterAll ours acts s .seqs ≡ s .seqs) × (afterAll ours acts s .lists ≡ s .lists)
+  enters-next m (known, listed, called, door) acts x full =
+      let E = envOf (s .lists) in
+      let w = went n s g acts x in
+      let taken : stepsIn acts ≡ chainOf E (s .seqs) n .steps = sym (steps-taken ours acts s) ∙ full ∙ check-steps n s (g .reached) (g .known) in
+      let at = subst (AtDoor m (chainEnd E (s .seqs) (chainOf E (s .seqs) n .names) (r .mirror))) (sym (w .runner ∙ ap (λ (k : ℕ). afterSteps E (s .seqs) k r) taken)) door in
+      let (seqs, lists) = still-over (at .running) (w .over) in (
+        record {
+          reached = reached-all ours acts (g .reached);
+          auto = w .auto;
+          door = record { running = at .running; entering = at .entering; sequence = at .sequence; place = at .place; raster = at .raster; mirror = refl };
+          known = known;
+        },
+        seqs,
+        lists,
+      )
+    where
+      still-over : afterAll ours acts s .unit .runner .running ≡ true → Over (s .seqs) (s .lists) (afterAll ours acts s)
+          → (afterAll ours acts s .seqs ≡ s .seqs) × (afterAll ours acts s .lists ≡ s .lists)
+      still-over e (inl same) = same
+      still-over e (inr z) = absurd (true≢false (sym e ∙ z))
+
+pub returning : Returning ours
+returning n s g y = let (m, k) = next n s g y in (m, again n s g y m k, enters-next n s g y m k)

@@ -22,14 +22,24 @@ use Rattle.runner.specs.declared.Opened.the-variants.{Open}
 use Rattle.runner.specs.declared.Act.{Act}
 use Rattle.runner.specs.declared.Act.the-variants.{Opens, Exposes, Loops, Waits, Calls, Ends}
 use Rattle.runner.specs.Judge.{setOf, exposeRows, closeRows, judged, judge}
-use Rattle.runner.specs.Step.{openOf, entered, begun, advances, exposed, looped, delayed, called, ended, act, stepIn, stepOf}
+use Rattle.runner.specs.declared.Stepped.{Stepped}
+use Rattle.runner.specs.declared.Event.{Event}
+use Rattle.runner.specs.declared.Event.the-variants.{Enter, Raster, Exp, Loop, Next, Done, Wait, Call, End}
+use Rattle.runner.specs.Events.{Shown, shownAs}
+use Rattle.runner.specs.Step.{to, openOf, entered, begun, advances, exposed, looped, delayed, called, ended, act, stepIn, stepOf}
 use Rattle.runner.proofs.Exactly.{run-raster-exactly, expose-exactly, loop-back-exactly, call-exactly, terminate-exactly}
+use Rattle.promises.specs.Library.{ours}
 use Rattle.promises.specs.Demand2.{advanceRows, callRows}
-use Rattle.promises.specs.EachStep.{here, Obeys, EnterStep, RasterStep, ExposeAdvances, ExposeStays, LoopJumps, LoopRepeats, LoopCloses, DelayStep, CallRepeats, TerminateRepeats, CallMade, TerminateEnds}
+use Rattle.unit.specs.Step.{watched}
+use Rattle.promises.specs.EachStep.{here, Obeys, Takes, EnterStep, RasterStep, ExposeAdvances, ExposeStays, LoopJumps, LoopRepeats, LoopCloses, DelayStep, CallRepeats, TerminateRepeats, CallMade, TerminateEnds}
 
-pub enter-step : EnterStep
+-- a step with this event shows what the event does
+takes : {r : Stepped} {left : Runner} {seen : ℕ → Shown} (e : Event) → r ≡ to e left → ((count : ℕ) → shownAs count e ≡ seen count) → Takes r seen left
+takes e p shown = record { shows = λ count. ap (λ (x : Stepped). shownAs count (x .event)) p ∙ shown count; leaves = ap (λ (x : Stepped). x .runner) p }
+
+pub enter-step : EnterStep ours
 unfolding stepOf stepIn entered headerOf
-enter-step E seqs s r e n = simp (r, e, no-code (headerRows (here E seqs s)) n)
+enter-step E seqs s r e n = takes (Enter (s .sequence)) (simp (r, e, no-code (headerRows (here E seqs s)) n)) (λ count. refl)
 
 -- of two tables, one after the other
 front-rows : (rs more : List Row) → NoneHolds (rs ++ more) → NoneHolds rs
@@ -86,9 +96,12 @@ module _ (E : Env) (seqs : List ℕ) (s : Runner) where
     in-reach = back-rows (exposeRows text time (Open r c)) (advanceRows text s (Open r c)) none .0
 
 -- ── the commands
-pub raster-step : RasterStep
+pub raster-step : RasterStep ours
 unfolding act begun
-raster-step E seqs s o = at-raster E seqs s o
+raster-step E seqs s o =
+    let raster = rasterAt (here E seqs s) (s .place) in
+    let p = at-raster E seqs s o in
+    (takes (Raster (raster .id) (raster .initial) (raster .list)) p (λ count. refl), λ w. ap (λ (x : Stepped). watched (x .event) w .list) p)
 
 advances-told : (raster : RasterWords) (s : Runner) → advances raster s ≡ true → (1 < s .passes) × (s .count + 1 ≡ setOf raster)
 unfolding advances
@@ -100,53 +113,53 @@ advances-test : (raster : RasterWords) (s : Runner) → 1 < s .passes → s .cou
 unfolding advances
 advances-test raster s h e = simp (lt-ltb 1 (s .passes) h, eq-eqb (s .count + 1) (setOf raster) e)
 
-pub expose-advances : ExposeAdvances
+pub expose-advances : ExposeAdvances ours
 unfolding act exposed
 expose-advances E seqs s time r c o held h e =
     let a = advances-test (rasterAt (here E seqs s) (r .0)) s h e in
     let past = simp a at (in-reach E seqs s time r c o held) in
-    at-expose E seqs s time r c o held ∙ simp (a, past)
+    takes (Exp (s .mirror)) (at-expose E seqs s time r c o held ∙ simp (a, past)) (λ count. refl)
 
-pub expose-stays : ExposeStays
+pub expose-stays : ExposeStays ours
 unfolding act exposed
 expose-stays E seqs s time r c o held f =
     let raster = rasterAt (here E seqs s) (r .0) in
     let stays : (b : Bool) → advances raster s ≡ b → b ≡ false =
     λ b e. elim b as (λ x. advances raster s ≡ x → x ≡ false) [ true ↦ λ e. let (p, q) = advances-told raster s e in absurd (f p q) | false ↦ λ e. refl ] e in
-    at-expose E seqs s time r c o held ∙ simp (stays (advances raster s) refl)
+    takes (Exp (s .mirror)) (at-expose E seqs s time r c o held ∙ simp (stays (advances raster s) refl)) (λ count. refl)
 
-pub loop-jumps : LoopJumps
+pub loop-jumps : LoopJumps ours
 unfolding act looped
-loop-jumps E seqs s t o h = at-loop E seqs s t o ∙ simp (lt-ltb 1 (s .passes) h)
+loop-jumps E seqs s t o h = takes (Loop t) (at-loop E seqs s t o ∙ simp (lt-ltb 1 (s .passes) h)) (λ count. refl)
 
-pub loop-repeats : LoopRepeats
+pub loop-repeats : LoopRepeats ours
 unfolding act looped
-loop-repeats E seqs s t o h k = at-loop E seqs s t o ∙ simp (le-ltb 1 (s .passes) h, lt-ltb 1 (s .repeats) k)
+loop-repeats E seqs s t o h k = takes Next (at-loop E seqs s t o ∙ simp (le-ltb 1 (s .passes) h, lt-ltb 1 (s .repeats) k)) (λ count. refl)
 
-pub loop-closes : LoopCloses
+pub loop-closes : LoopCloses ours
 unfolding act looped
-loop-closes E seqs s t o h k = at-loop E seqs s t o ∙ simp (le-ltb 1 (s .passes) h, le-ltb 1 (s .repeats) k)
+loop-closes E seqs s t o h k = takes Done (at-loop E seqs s t o ∙ simp (le-ltb 1 (s .passes) h, le-ltb 1 (s .repeats) k)) (λ count. refl)
 
-pub delay-step : DelayStep
+pub delay-step : DelayStep ours
 unfolding act delayed
 delay-step E seqs s time o =
     let operand = subst (Bytes (here E seqs s) (s .place)) (o .command) (command-bytes (here E seqs s) (s .place)) .1 in
-    at-delay E seqs s time o ∙ simp operand
+    takes (Wait time) (at-delay E seqs s time o ∙ simp operand) (λ count. refl)
 
-pub call-repeats : CallRepeats
+pub call-repeats : CallRepeats ours
 unfolding act called
-call-repeats E seqs s n o h = at-call E seqs s n o ∙ simp (lt-ltb 1 (s .rounds) h)
+call-repeats E seqs s n o h = takes Next (at-call E seqs s n o ∙ simp (lt-ltb 1 (s .rounds) h)) (λ count. refl)
 
-pub terminate-repeats : TerminateRepeats
+pub terminate-repeats : TerminateRepeats ours
 unfolding act ended
-terminate-repeats E seqs s o h = at-terminate E seqs s o ∙ simp (lt-ltb 1 (s .rounds) h)
+terminate-repeats E seqs s o h = takes Next (at-terminate E seqs s o ∙ simp (lt-ltb 1 (s .rounds) h)) (λ count. refl)
 
-pub call-made : CallMade
+pub call-made : CallMade ours
 unfolding act called
 call-made E seqs s n o h =
     let low = simp (le-ltb 1 (s .rounds) h) at (back-rows (closeRows (here E seqs s) (s .place) (openOf s)) (callRows E s n) (o .accepted) .0) in
-    at-call E seqs s n o ∙ simp (le-ltb 1 (s .rounds) h, low)
+    takes (Call n) (at-call E seqs s n o ∙ simp (le-ltb 1 (s .rounds) h, low)) (λ count. refl)
 
-pub terminate-ends : TerminateEnds
+pub terminate-ends : TerminateEnds ours
 unfolding act ended
-terminate-ends E seqs s o h = at-terminate E seqs s o ∙ simp (le-ltb 1 (s .rounds) h)
+terminate-ends E seqs s o h = takes End (at-terminate E seqs s o ∙ simp (le-ltb 1 (s .rounds) h)) (λ count. refl)

@@ -1,47 +1,31 @@
-pub mod Turns
-pub mod Steps
-pub mod Runs
-pub mod Sound
-pub mod Rules
-pub mod Sights
-pub mod Lines
-pub mod Rasters
-pub mod Rounds
-pub mod Counts
-pub mod Shown
-pub mod Seen
-pub mod Targets
-pub mod Walks
-pub mod Sequences
-pub mod Listing
-pub mod Chains
-pub mod Never
-pub mod Laps
-pub mod Ranges
-pub mod ChainShown
-pub mod TextOrder
-pub mod Plans
-pub mod Units
-pub mod Obeyed
+-- The proofs, from the ground up. What follows from what:
+--   Text, Run      one sequence: what the check finds in its text is what the interpreter then does
+--   Chain          so of sequences one after another, as the names are listed
+--   Range          every step and packet keeps a unit in range, so that no step of a state reached is denied
+--   Packets        packets are obeyed and refused as the rows say; between the steps they move no run
+--   Demand1        from Packets and Run: a refusal changes nothing else
+--   Demand2        from Packets and Run: each answer and each effect; EachStep and EachCheck sentence by sentence
+--   Sentences      from EachCheck: no other check fits its sentences
+--   Demand3        from Chain, Range and Packets: the unit keeps what the check tells; EveryLap, for good
+--   Decided        from Demand3: the check can tell nothing else
+--   Refuted        from Decided, and by computing over SampleTables: the wrong libraries that document 01 names keep no such demand
+--   Samples        by computing
+--   OneAnswer      from the contracts: one answer for each call; TheCode: the demands, for the code
+pub mod Text
+pub mod Run
+pub mod Chain
+pub mod Range
 pub mod Packets
-pub mod Auto
-pub mod Steady
-pub mod Starts
-pub mod Between
-pub mod Working
-pub mod AsTold
-pub mod Demand3
-pub mod Tests
-pub mod Exactly
-pub mod Acts
-pub mod Faults
-pub mod Needs
-pub mod Leaves
-pub mod Effects
-pub mod Transfers
 pub mod Demand1
 pub mod Demand2
 pub mod EachStep
-pub mod OneAnswer
+pub mod EachCheck
+pub mod Sentences
+pub mod Demand3
+pub mod EveryLap
+pub mod Decided
+pub mod SampleTables
 pub mod Samples
+pub mod Refuted
+pub mod OneAnswer
 pub mod TheCode

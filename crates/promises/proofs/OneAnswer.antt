@@ -8,11 +8,16 @@ use Rattle.promises.specs.OneAnswer.{
   OneOctetsPart,
   OneOctetsXorOn,
   OneOctetsRefuse,
+  OneOctetsPair,
+  OneOctetsEither,
   OneMemoryPlaceOf,
   OneMemoryPlaceNumber,
   OneMemoryAddressOf,
   OneMemoryAddressRange,
   OneMemoryRangeAt,
+  OneMemoryAddressedRange,
+  OneMemoryRangeIsWrong,
+  OneMemoryPartOf,
   OneMemoryTablesWrong,
   OneMemoryWindowCode,
   OneMemoryWindow,
@@ -22,6 +27,12 @@ use Rattle.promises.specs.OneAnswer.{
   OneMemoryList,
   OneSequenceSizeOf,
   OneSequenceLimit,
+  OneSequenceIdAt,
+  OneSequenceInitialAt,
+  OneSequenceLoopsAt,
+  OneSequenceRepeatsAt,
+  OneSequenceListAt,
+  OneSequenceRasterStands,
   OneSequenceLengthGood,
   OneSequenceXorGood,
   OneSequenceHeaderOf,
@@ -34,9 +45,11 @@ use Rattle.promises.specs.OneAnswer.{
   OneRunnerJudge,
   OneRunnerRunnerStep,
   OneSurveyCheck,
+  OneSurveyCheckOne,
   OneUnitUnitPowerOn,
   OneUnitUnitOutOfRange,
   OneUnitKindOf,
+  OneUnitLentWrong,
   OneUnitUnitPacket,
   OneUnitWindowCode,
   OneUnitWindow,
@@ -55,12 +68,7 @@ use Rattle.promises.specs.OneAnswer.{
   OneLinePutEvent,
   OneLinePutBad,
   OneLineIsHex,
-  OneLineFigures,
   OneLineNumber,
-  OneLineLineEnd,
-  OneLineIsBlank,
-  OneLineNextWord,
-  OneLineBegins,
   OneLineReadLine,
   OneKeelKeelPowerOn,
   OneKeelKeelPacket,
@@ -87,6 +95,12 @@ one-result-octets-xor-on κs a r r′ e e′ p q = p ∙ sym q
 pub one-result-octets-refuse : OneOctetsRefuse
 one-result-octets-refuse κs a r r′ e e′ p q = p ∙ sym q
 
+pub one-result-octets-pair : OneOctetsPair
+one-result-octets-pair κs a r r′ e e′ p q = p ∙ sym q
+
+pub one-result-octets-either : OneOctetsEither
+one-result-octets-either κs a r r′ e e′ p q = p ∙ sym q
+
 -- ── memory
 pub one-result-memory-Place-of : OneMemoryPlaceOf
 one-result-memory-Place-of κs a r r′ e e′ p q = p ∙ sym q
@@ -102,6 +116,15 @@ one-result-memory-Address-range κs a r r′ e e′ p q = p ∙ sym q
 
 pub one-result-memory-range-at : OneMemoryRangeAt
 one-result-memory-range-at κs a r r′ e e′ p q = p ∙ sym q
+
+pub one-result-memory-Addressed-range : OneMemoryAddressedRange
+one-result-memory-Addressed-range κs a r r′ e e′ p q = p ∙ sym q
+
+pub one-result-memory-Range-is-wrong : OneMemoryRangeIsWrong
+one-result-memory-Range-is-wrong κs a r r′ e e′ p q = p ∙ sym q
+
+pub one-result-memory-part-of : OneMemoryPartOf
+one-result-memory-part-of κs a r r′ e e′ p q = p ∙ sym q
 
 pub one-result-memory-tables-wrong : OneMemoryTablesWrong
 one-result-memory-tables-wrong κs a r r′ e e′ p q = p ∙ sym q
@@ -130,6 +153,24 @@ one-result-sequence-size-of κs a r r′ e e′ p q = p .0 ∙ sym (q .0)
 
 pub one-result-sequence-limit : OneSequenceLimit
 one-result-sequence-limit κs a r r′ e e′ p q = p ∙ sym q
+
+pub one-result-sequence-id-at : OneSequenceIdAt
+one-result-sequence-id-at κs a r r′ e e′ p q = p ∙ sym q
+
+pub one-result-sequence-initial-at : OneSequenceInitialAt
+one-result-sequence-initial-at κs a r r′ e e′ p q = p ∙ sym q
+
+pub one-result-sequence-loops-at : OneSequenceLoopsAt
+one-result-sequence-loops-at κs a r r′ e e′ p q = p ∙ sym q
+
+pub one-result-sequence-repeats-at : OneSequenceRepeatsAt
+one-result-sequence-repeats-at κs a r r′ e e′ p q = p ∙ sym q
+
+pub one-result-sequence-list-at : OneSequenceListAt
+one-result-sequence-list-at κs a r r′ e e′ p q = p ∙ sym q
+
+pub one-result-sequence-raster-stands : OneSequenceRasterStands
+one-result-sequence-raster-stands κs a r r′ e e′ p q = p ∙ sym q
 
 pub one-result-sequence-length-good : OneSequenceLengthGood
 one-result-sequence-length-good κs a r r′ e e′ p q = p ∙ sym q
@@ -175,6 +216,9 @@ one-result-runner-Runner-step κs a r r′ e e′ p q = p ∙ sym q
 pub one-result-survey-check : OneSurveyCheck
 one-result-survey-check κs a r r′ e e′ p q = p ∙ sym q
 
+pub one-result-survey-check-one : OneSurveyCheckOne
+one-result-survey-check-one κs a r r′ e e′ p q = p ∙ sym q
+
 -- ── unit
 pub one-result-unit-Unit-power-on : OneUnitUnitPowerOn
 one-result-unit-Unit-power-on κs a r r′ e e′ p q = p ∙ sym q
@@ -184,6 +228,9 @@ one-result-unit-Unit-out-of-range κs a r r′ e e′ p q = p ∙ sym q
 
 pub one-result-unit-kind-of : OneUnitKindOf
 one-result-unit-kind-of κs a r r′ e e′ p q = p ∙ sym q
+
+pub one-result-unit-lent-wrong : OneUnitLentWrong
+one-result-unit-lent-wrong κs a r r′ e e′ p q = p ∙ sym q
 
 pub one-result-unit-Unit-packet : OneUnitUnitPacket
 one-result-unit-Unit-packet κs a r r′ e e′ p q = λ i. ((p .0 ∙ sym (q .0)) i, (p .1 .0 ∙ sym (q .1 .0)) i, (p .1 .1 .0 ∙ sym (q .1 .1 .0)) i, (p .1 .1 .1 ∙ sym (q .1 .1 .1)) i)
@@ -234,23 +281,8 @@ one-result-line-put-bad κs a r r′ e e′ p q = λ i. ((p .place ∙ sym (q .p
 pub one-result-line-is-hex : OneLineIsHex
 one-result-line-is-hex κs a r r′ e e′ p q = p ∙ sym q
 
-pub one-result-line-figures : OneLineFigures
-one-result-line-figures κs a r r′ e e′ p q = p ∙ sym q
-
 pub one-result-line-number : OneLineNumber
 one-result-line-number κs a r r′ e e′ p q = p ∙ sym q
-
-pub one-result-line-line-end : OneLineLineEnd
-one-result-line-line-end κs a r r′ e e′ p q = p ∙ sym q
-
-pub one-result-line-is-blank : OneLineIsBlank
-one-result-line-is-blank κs a r r′ e e′ p q = p ∙ sym q
-
-pub one-result-line-next-word : OneLineNextWord
-one-result-line-next-word κs a r r′ e e′ p q = p ∙ sym q
-
-pub one-result-line-begins : OneLineBegins
-one-result-line-begins κs a r r′ e e′ p q = p ∙ sym q
 
 pub one-result-line-read-line : OneLineReadLine
 one-result-line-read-line κs a r r′ e e′ p q = λ i. ((p .0 ∙ sym (q .0)) i, (p .1 ∙ sym (q .1)) i)

@@ -1,11 +1,29 @@
 -- The demands, for the code: the contracts are equations with what the demands name. Assumes nothing.
-use Rattle.promises.specs.TheCode.{StepIs, PacketIs, CheckIs}
+use Rattle.promises.specs.TheCode.{PowerOnIs, PacketIs, StepIs, RunIs, CheckIs, WindowCodeIs, WindowIs, OutOfRangeIs, KindIs}
 
-pub step-is : StepIs
-step-is κs a r e h = h
+pub power-on-is : PowerOnIs
+power-on-is κs args result exit learnt = learnt
 
 pub packet-is : PacketIs
-packet-is κs a r e h = (h .0, h .1 .0, h .1 .1 .0)
+packet-is κs args result exit learnt = (learnt .0, learnt .1 .0, learnt .1 .1 .0, learnt .1 .1 .1)
+
+pub step-is : StepIs
+step-is κs args result exit learnt = learnt
+
+pub run-is : RunIs
+run-is κs args result exit learnt = learnt
 
 pub check-is : CheckIs
-check-is κs a r e h = h
+check-is κs args result exit learnt = learnt
+
+pub window-code-is : WindowCodeIs
+window-code-is κs args result exit learnt = learnt
+
+pub window-is : WindowIs
+window-is κs args result exit learnt = learnt
+
+pub out-of-range-is : OutOfRangeIs
+out-of-range-is κs args result exit learnt = learnt
+
+pub kind-is : KindIs
+kind-is κs args result exit learnt = learnt

@@ -1,15 +1,17 @@
 -- Demand 1: every call is answered, and a refusal leaves everything as it was but for what the status shows of it.
 -- Each statement in plain words and then in symbols; proofs/Demand1 has its proof, under its name (`refused-keeps : RefusedKeeps`).
-use Prim.Native.Nat.{ℕ, _≤_, _<_}
+use Prim.Native.Nat.{ℕ, _<_}
 use mathlib.Core.Path.{_≡_}
-use mathlib.Core.List.{List}
+use mathlib.Core.Bool.{true}
+use mathlib.Core.List.{List, [], _∷_}
 use mathlib.Core.Logic.{_⊎_}
 use Rattle.octets.specs.Bytes.{byteAt}
-use Rattle.runner.specs.declared.Event.the-variants.{Idle}
+use Rattle.sequence.specs.Starts.{among}
 use Rattle.unit.specs.declared.Unit.{Unit as ControlUnit}
-use Rattle.unit.specs.declared.Outcome.the-variants.{Denied, Saw}
+use Rattle.unit.specs.declared.Outcome.the-variants.{Denied}
 use Rattle.unit.specs.State.{counted, logOf}
-use Rattle.unit.specs.Step.{unitStep}
+use Rattle.promises.specs.Library.{Library}
+use Rattle.promises.specs.Runs.{idle, Showing}
 use Rattle.promises.specs.Sent.{Sent, code, after, TablesKept, NoAnswer}
 
 -- ── 1. Every call is answered
@@ -20,9 +22,12 @@ use Rattle.promises.specs.Sent.{Sent, code, after, TablesKept, NoAnswer}
 --   - the proof of each function shows that it returns, for all inputs, with that value, that it reads and writes no byte outside what it
 --     was lent, and that no sum wraps where the definition does not say so.
 
--- There is no answer but these: obeyed (0), a code from 1 to 10, 16, or 17. The sections below speak of each.
-abbrev pub NoOtherCode : Type 0
-NoOtherCode = (s : Sent) → (code s ≤ 10) ⊎ ((code s ≡ 16) ⊎ (code s ≡ 17))
+-- There is no answer but those of the table "What the unit answers".
+abbrev pub answers : List ℕ
+answers = 0 ∷ 1 ∷ 3 ∷ 4 ∷ 5 ∷ 6 ∷ 7 ∷ 8 ∷ 9 ∷ 10 ∷ 16 ∷ 17 ∷ []
+
+abbrev pub NoOtherCode : Library → Type 0
+NoOtherCode L = (s : Sent) → among (code L s) answers ≡ true
 
 -- ── 2. A refused packet
 
@@ -43,29 +48,29 @@ pub record Refused (p : List ℕ) (c : ℕ) (was is : ControlUnit) : Type 0 wher
 
 -- "Refusals write no output and no table." A packet with a code that is not 0, and below 16, is counted, logged and shown as failed; all
 -- else stays: the rest of the state, both tables, the output.
-abbrev pub RefusedKeeps : Type 0
-RefusedKeeps = (s : Sent) → 0 < code s → code s < 16 → Refused (s .bytes) (code s) (s .unit) (after s) × TablesKept s × NoAnswer s
+abbrev pub RefusedKeeps : Library → Type 0
+RefusedKeeps L = (s : Sent) → 0 < code L s → code L s < 16 → Refused (s .bytes) (code L s) (s .unit) (after L s) × TablesKept L s × NoAnswer L s
 
 -- ── 3. 16 and 17
 
 -- "16 and 17 change nothing and aren't counted." Nothing at all: the unit, the tables, the output.
-abbrev pub Unchanged : Sent → Type 0
-Unchanged s = (after s ≡ s .unit) × TablesKept s × NoAnswer s
+abbrev pub Unchanged : Library → Sent → Type 0
+Unchanged L s = (after L s ≡ s .unit) × TablesKept L s × NoAnswer L s
 
-abbrev pub SixteenKeeps : Type 0
-SixteenKeeps = (s : Sent) → code s ≡ 16 → Unchanged s
+abbrev pub SixteenKeeps : Library → Type 0
+SixteenKeeps L = (s : Sent) → code L s ≡ 16 → Unchanged L s
 
-abbrev pub SeventeenKeeps : Type 0
-SeventeenKeeps = (s : Sent) → code s ≡ 17 → Unchanged s
+abbrev pub SeventeenKeeps : Library → Type 0
+SeventeenKeeps L = (s : Sent) → code L s ≡ 17 → Unchanged L s
 
 -- ── 4. Steps, the check and the window
 
 -- A step that is denied changes nothing in the unit, and it is denied with 16 or 17 alone. A step, a check and a window borrow their tables
 -- for reading and have no output, so there is nothing else that one of them could change.
-abbrev pub DeniedKeeps : Type 0
-DeniedKeeps = (u : ControlUnit) (seqs lists : List ℕ) (c : ℕ) → unitStep u seqs lists .outcome ≡ Denied c
-    → ((c ≡ 16) ⊎ (c ≡ 17)) × (unitStep u seqs lists .unit ≡ u)
+abbrev pub DeniedKeeps : Library → Type 0
+DeniedKeeps L = (u : ControlUnit) (seqs lists : List ℕ) (c : ℕ) → L .steps u seqs lists .outcome ≡ Denied c
+    → ((c ≡ 16) ⊎ (c ≡ 17)) × (L .steps u seqs lists .unit ≡ u)
 
 -- "A step not running is idle and changes nothing."
-abbrev pub IdleKeeps : Type 0
-IdleKeeps = (u : ControlUnit) (seqs lists : List ℕ) → unitStep u seqs lists .outcome ≡ Saw Idle → unitStep u seqs lists .unit ≡ u
+abbrev pub IdleKeeps : Library → Type 0
+IdleKeeps L = (u : ControlUnit) (seqs lists : List ℕ) → Showing (L .steps u seqs lists .outcome) idle → L .steps u seqs lists .unit ≡ u

@@ -7,9 +7,9 @@ use mathlib.Core.List.{List, [], _∷_, _++_}
 use mathlib.Core.Logic.{_↔_, _⊎_}
 use lib.Dec.{ltb}
 use lib.ListN.{length, take, drop, replicate}
-use Rattle.octets.specs.Bytes.{byteAt, tripleAt}
+use Rattle.octets.specs.Bytes.{byteAt, tripleAt, two, four, halves}
 use Rattle.octets.specs.Rows.{Row, row, NoneHolds, FirstBears}
-use Rattle.memory.specs.Memory.{windowRows, windowCode, windowPart}
+use Rattle.memory.specs.Memory.{windowRows}
 use Rattle.sequence.specs.declared.Command.{Command}
 use Rattle.sequence.specs.declared.Command.the-variants.{RunRaster, Expose, LoopBack, CallSequence, Terminate, Delay, Nothing, Unknown, Unfit}
 use Rattle.sequence.specs.Text.{headerRows, headerPlace, commandAt}
@@ -17,23 +17,23 @@ use Rattle.sequence.specs.Raster.{rasterAt}
 use Rattle.sequence.specs.Env.{Env, envOf, textOf}
 use Rattle.runner.specs.declared.Runner.{Runner}
 use Rattle.runner.specs.declared.Event.{Event}
-use Rattle.runner.specs.declared.Event.the-variants.{Idle, Abort}
 use Rattle.runner.specs.declared.Opened.{Opened}
 use Rattle.runner.specs.declared.Opened.the-variants.{Shut, Open}
 use Rattle.runner.specs.Judge.{runRows, exposeRows, loopRows, closeRows}
-use Rattle.runner.specs.Step.{openOf, advances, stepOf}
+use Rattle.runner.specs.Step.{openOf, advances}
 use Rattle.runner.specs.With.{withSequence, withPlace, withRunning}
 use Rattle.survey.specs.declared.Ending.the-variants.{Unlisted}
-use Rattle.survey.specs.Chain.{told, chainOf, checkRows, checkOf}
+use Rattle.survey.specs.Chain.{told, chainOf, checkRows}
 use Rattle.unit.specs.declared.Unit.{Unit as ControlUnit}
 use Rattle.unit.specs.declared.Kind.{Kind}
 use Rattle.unit.specs.declared.Kind.the-variants.{Status, Dump, Allow, Mode, Clear, Select, Uplink, Foreign, Unheard}
 use Rattle.unit.specs.declared.Outcome.the-variants.{Denied, Saw}
 use Rattle.unit.specs.State.{counted, logOf, outOfRange}
 use Rattle.unit.specs.Packet.{kindOf, packetRows}
-use Rattle.unit.specs.Status.{two, four, halves, orZero, statusOf}
-use Rattle.unit.specs.Step.{watched, stepRows, unitStep}
-use Rattle.promises.specs.Runs.{quiet}
+use Rattle.unit.specs.Status.{orZero, statusOf}
+use Rattle.unit.specs.Step.{watched, stepRows}
+use Rattle.promises.specs.Library.{Library}
+use Rattle.promises.specs.Runs.{ShownAs, Showing, idle, aborts, quiet}
 use Rattle.promises.specs.Sent.{Sent, answer, code, after, seqsLeft, listsLeft, outLeft, bc1, bc2, TablesKept, NoAnswer, Logged}
 
 -- ── 1. Packets: the code
@@ -43,12 +43,12 @@ abbrev pub rowsFor : Sent → List Row
 rowsFor s = packetRows (s .unit) (s .seqs) (s .lists) (s .out) (s .bytes)
 
 -- A packet is obeyed exactly when no row holds,
-abbrev pub AcceptedExactly : Type 0
-AcceptedExactly = (s : Sent) → (code s ≡ 0) ↔ NoneHolds (rowsFor s)
+abbrev pub AcceptedExactly : Library → Type 0
+AcceptedExactly L = (s : Sent) → (code L s ≡ 0) ↔ NoneHolds (rowsFor s)
 
 -- and it is refused with code c exactly when c is the code of the first row that holds.
-abbrev pub CodeExactly : Type 0
-CodeExactly = (s : Sent) (c : ℕ) → 0 < c → (code s ≡ c) ↔ FirstBears c (rowsFor s)
+abbrev pub CodeExactly : Library → Type 0
+CodeExactly L = (s : Sent) (c : ℕ) → 0 < c → (code L s ≡ c) ↔ FirstBears c (rowsFor s)
 
 -- ── 2. Packets: when each command is obeyed, in words
 
@@ -123,20 +123,20 @@ Wanted Foreign s = ⊥
 Wanted Unheard s = ⊥
 
 -- A packet is obeyed exactly when the sizes are right, the state is in range, and its command has what it needs.
-abbrev pub ObeyedExactly : Type 0
-ObeyedExactly = (s : Sent) → (code s ≡ 0) ↔ (Lent s × InRange (s .unit) × Wanted (kindOf (bc1 s)) s)
+abbrev pub ObeyedExactly : Library → Type 0
+ObeyedExactly L = (s : Sent) → (code L s ≡ 0) ↔ (Lent s × InRange (s .unit) × Wanted (kindOf (bc1 s)) s)
 
 -- ── 3. Packets: the effect of each command
 
 -- A packet with this BC1 is obeyed.
-pub record Obeyed (number : ℕ) (s : Sent) : Type 0 where
-  pub accepted : code s ≡ 0
+pub record Obeyed (L : Library) (number : ℕ) (s : Sent) : Type 0 where
+  pub accepted : code L s ≡ 0
   pub command : bc1 s ≡ number
 
 -- The answer is these bytes, laid over the output's start: "Output past an answer stays."
-pub record Answered (bytes : List ℕ) (s : Sent) : Type 0 where
-  pub size : answer s .length ≡ length bytes
-  pub output : outLeft s ≡ bytes ++ drop (length bytes) (s .out)
+pub record Answered (L : Library) (bytes : List ℕ) (s : Sent) : Type 0 where
+  pub size : answer L s .length ≡ length bytes
+  pub output : outLeft L s ≡ bytes ++ drop (length bytes) (s .out)
 
 -- 01: "status block; STATUS_PC + 1". The request alone is counted; no packet is, and the log stays. The block is that of the unit after it.
 pub record Asks (was is : ControlUnit) : Type 0 where
@@ -148,8 +148,8 @@ pub record Asks (was is : ControlUnit) : Type 0 where
   pub watch : is .watch ≡ was .watch
   pub runner : is .runner ≡ was .runner
 
-abbrev pub Effect01 : Type 0
-Effect01 = (s : Sent) → Obeyed 0x01 s → Asks (s .unit) (after s) × TablesKept s × Answered (statusOf (after s) (s .time)) s
+abbrev pub Effect01 : Library → Type 0
+Effect01 L = (s : Sent) → Obeyed L 0x01 s → Asks (s .unit) (after L s) × TablesKept L s × Answered L (statusOf (after L s) (s .time)) s
 
 -- "Answer to 01: byte 01, size 00 00 64, then 100 bytes." The 100 bytes by document 01's positions, which stand at each line's end.
 abbrev pub zeros : ℕ → List ℕ
@@ -197,16 +197,16 @@ part t at len = take len (drop at t)
 
 -- 07: "dump to output", "answered by those bytes alone". The range lies wholly in one table, and the answer is that table's own bytes, from the
 -- address on, as many as the count says.
-abbrev pub Effect07 : Type 0
-Effect07 = (s : Sent) → Obeyed 0x07 s
+abbrev pub Effect07 : Library → Type 0
+Effect07 L = (s : Sent) → Obeyed L 0x07 s
     → let a = tripleAt (s .bytes) 1 in
     let len = tripleAt (s .bytes) 4 in
     InOneTable a len
-    × OnlyLogged (s .bytes) (s .unit) (after s)
-    × TablesKept s
-    × (answer s .length ≡ len)
-    × (InSequences a len → Answered (part (s .seqs) (a - 0x070000) len) s)
-    × (InLineLists a len → Answered (part (s .lists) (a - 0x074000) len) s)
+    × OnlyLogged (s .bytes) (s .unit) (after L s)
+    × TablesKept L s
+    × (answer L s .length ≡ len)
+    × (InSequences a len → Answered L (part (s .seqs) (a - 0x070000) len) s)
+    × (InLineLists a len → Answered L (part (s .lists) (a - 0x074000) len) s)
 
 -- 20: "mode changes allowed until power off". What is allowed stays so: no packet and no step takes it back.
 pub record Allows (p : List ℕ) (was is : ControlUnit) : Type 0 where
@@ -218,12 +218,12 @@ pub record Allows (p : List ℕ) (was is : ControlUnit) : Type 0 where
   pub watch : is .watch ≡ was .watch
   pub runner : is .runner ≡ was .runner
 
-abbrev pub Effect20 : Type 0
-Effect20 = (s : Sent) → Obeyed 0x20 s → Allows (s .bytes) (s .unit) (after s) × TablesKept s × NoAnswer s
+abbrev pub Effect20 : Library → Type 0
+Effect20 L = (s : Sent) → Obeyed L 0x20 s → Allows (s .bytes) (s .unit) (after L s) × TablesKept L s × NoAnswer L s
 
-abbrev pub StaysAllowed : Type 0
-StaysAllowed = ((s : Sent) → s .unit .control .allowed ≡ true → after s .control .allowed ≡ true)
-    × ((u : ControlUnit) (seqs lists : List ℕ) → u .control .allowed ≡ true → unitStep u seqs lists .unit .control .allowed ≡ true)
+abbrev pub StaysAllowed : Library → Type 0
+StaysAllowed L = ((s : Sent) → s .unit .control .allowed ≡ true → after L s .control .allowed ≡ true)
+    × ((u : ControlUnit) (seqs lists : List ℕ) → u .control .allowed ≡ true → L .steps u seqs lists .unit .control .allowed ≡ true)
 
 -- 21: "change mode". In every case the mode is BC2; permission, status requests and selection are as they were.
 pub record Moded (p : List ℕ) (was is : ControlUnit) : Type 0 where
@@ -262,14 +262,14 @@ pub record RunKept (was is : ControlUnit) : Type 0 where
   pub runner : is .runner ≡ was .runner
   pub watch : is .watch ≡ was .watch
 
-abbrev pub Effect21 : Type 0
-Effect21 = (s : Sent) → Obeyed 0x21 s
-    → Moded (s .bytes) (s .unit) (after s)
-    × TablesKept s
-    × NoAnswer s
-    × (bc2 s ≡ 3 → Started (s .unit) (after s))
-    × ((bc2 s ≡ 3 → ⊥) → s .unit .runner .running ≡ true → Stopped (s .unit) (after s))
-    × ((bc2 s ≡ 3 → ⊥) → s .unit .runner .running ≡ false → RunKept (s .unit) (after s))
+abbrev pub Effect21 : Library → Type 0
+Effect21 L = (s : Sent) → Obeyed L 0x21 s
+    → Moded (s .bytes) (s .unit) (after L s)
+    × TablesKept L s
+    × NoAnswer L s
+    × (bc2 s ≡ 3 → Started (s .unit) (after L s))
+    × ((bc2 s ≡ 3 → ⊥) → s .unit .runner .running ≡ true → Stopped (s .unit) (after L s))
+    × ((bc2 s ≡ 3 → ⊥) → s .unit .runner .running ≡ false → RunKept (s .unit) (after L s))
 
 -- 23: "failed code, failed number and abort code to 0". The count of failures stays.
 pub record Clears (p : List ℕ) (was is : ControlUnit) : Type 0 where
@@ -284,8 +284,8 @@ pub record Clears (p : List ℕ) (was is : ControlUnit) : Type 0 where
   pub control : is .control ≡ was .control
   pub runner : is .runner ≡ was .runner
 
-abbrev pub Effect23 : Type 0
-Effect23 = (s : Sent) → Obeyed 0x23 s → Clears (s .bytes) (s .unit) (after s) × TablesKept s × NoAnswer s
+abbrev pub Effect23 : Library → Type 0
+Effect23 L = (s : Sent) → Obeyed L 0x23 s → Clears (s .bytes) (s .unit) (after L s) × TablesKept L s × NoAnswer L s
 
 -- 83: "select sequence"; "83 also puts its number in the status, place 0".
 pub record Selects (p : List ℕ) (was is : ControlUnit) : Type 0 where
@@ -297,8 +297,8 @@ pub record Selects (p : List ℕ) (was is : ControlUnit) : Type 0 where
   pub ledger : Logged p (was .ledger) (is .ledger)
   pub watch : is .watch ≡ was .watch
 
-abbrev pub Effect83 : Type 0
-Effect83 = (s : Sent) → Obeyed 0x83 s → Selects (s .bytes) (s .unit) (after s) × TablesKept s × NoAnswer s
+abbrev pub Effect83 : Library → Type 0
+Effect83 L = (s : Sent) → Obeyed L 0x83 s → Selects (s .bytes) (s .unit) (after L s) × TablesKept L s × NoAnswer L s
 
 -- E7: "uplink". A table after bytes were written over it from a place on: those bytes stand there, every other byte is as it was.
 pub record Written (at len : ℕ) (sent was is : List ℕ) : Type 0 where
@@ -311,44 +311,55 @@ pub record Written (at len : ℕ) (sent was is : List ℕ) : Type 0 where
 abbrev pub dataOf : Sent → List ℕ
 dataOf s = drop 5 (s .bytes)
 
-abbrev pub EffectE7 : Type 0
-EffectE7 = (s : Sent) → Obeyed 0xE7 s
+abbrev pub EffectE7 : Library → Type 0
+EffectE7 L = (s : Sent) → Obeyed L 0xE7 s
     → let a = tripleAt (s .bytes) 1 in
     let len = byteAt (s .bytes) 4 in
     InOneTable a len
-    × OnlyLogged (s .bytes) (s .unit) (after s)
-    × NoAnswer s
-    × (InSequences a len → Written (a - 0x070000) len (dataOf s) (s .seqs) (seqsLeft s) × (listsLeft s ≡ s .lists))
-    × (InLineLists a len → Written (a - 0x074000) len (dataOf s) (s .lists) (listsLeft s) × (seqsLeft s ≡ s .seqs))
+    × OnlyLogged (s .bytes) (s .unit) (after L s)
+    × NoAnswer L s
+    × (InSequences a len → Written (a - 0x070000) len (dataOf s) (s .seqs) (seqsLeft L s) × (listsLeft L s ≡ s .lists))
+    × (InLineLists a len → Written (a - 0x074000) len (dataOf s) (s .lists) (listsLeft L s) × (seqsLeft L s ≡ s .seqs))
+
+-- "At power-on mode is 1, byte 17 is 0x22, the rest of the state is 0 or none": nothing runs, and 255 stands for none.
+abbrev pub PowersOn : Library → Type 0
+PowersOn L =
+    L .powersOn
+    ≡ record {
+      ledger = record { received = 0; failed = 0; code = 0; number = 0; log = record { bc1 = 0; bc2 = 0; bc3 = 0; size = 0 } };
+      control = record { mode = 1; allowed = false; requests = 0; selection = 255 };
+      watch = record { list = 0; exposures = 0; abort = 0 };
+      runner = record { sequence = 255; place = 0; running = false; entering = false; raster = 255; count = 0; passes = 0; repeats = 0; rounds = 0; mirror = 0 };
+    }
 
 -- ── 4. Steps
 
 -- A step of the unit is denied with 16, then 17, exactly by its two rows; with none of them something is seen.
-abbrev pub StepAcceptedExactly : Type 0
-StepAcceptedExactly = (u : ControlUnit) (seqs lists : List ℕ)
-    → (unitStep u seqs lists .outcome ≡ Saw (stepOf (envOf lists) seqs (u .runner) .event)) ↔ NoneHolds (stepRows u seqs lists)
+abbrev pub StepAcceptedExactly : Library → Type 0
+StepAcceptedExactly L = (u : ControlUnit) (seqs lists : List ℕ)
+    → (L .steps u seqs lists .outcome ≡ Saw (L .runs (envOf lists) seqs (u .runner) .event)) ↔ NoneHolds (stepRows u seqs lists)
 
-abbrev pub StepCodeExactly : Type 0
-StepCodeExactly = (u : ControlUnit) (seqs lists : List ℕ) (c : ℕ) → 0 < c → (unitStep u seqs lists .outcome ≡ Denied c) ↔ FirstBears c (stepRows u seqs lists)
+abbrev pub StepCodeExactly : Library → Type 0
+StepCodeExactly L = (u : ControlUnit) (seqs lists : List ℕ) (c : ℕ) → 0 < c → (L .steps u seqs lists .outcome ≡ Denied c) ↔ FirstBears c (stepRows u seqs lists)
 
 -- What is not denied is the interpreter's step: its event is seen, the unit keeps its runner, and the status takes what the event shows: a run
 -- raster's line list, one exposure more (wrapping), an abort's code. EachStep says what that step is, command by command.
-abbrev pub StepTakes : Type 0
-StepTakes = (u : ControlUnit) (seqs lists : List ℕ) → NoneHolds (stepRows u seqs lists)
-    → let r = stepOf (envOf lists) seqs (u .runner) in
-    (unitStep u seqs lists .outcome ≡ Saw (r .event))
-    × (unitStep u seqs lists .unit .runner ≡ r .runner)
-    × (unitStep u seqs lists .unit .watch ≡ watched (r .event) (u .watch))
+abbrev pub StepTakes : Library → Type 0
+StepTakes L = (u : ControlUnit) (seqs lists : List ℕ) → NoneHolds (stepRows u seqs lists)
+    → let r = L .runs (envOf lists) seqs (u .runner) in
+    (L .steps u seqs lists .outcome ≡ Saw (r .event))
+    × (L .steps u seqs lists .unit .runner ≡ r .runner)
+    × (L .steps u seqs lists .unit .watch ≡ watched (r .event) (u .watch))
 
 -- No step changes the counts of packets, the log or the failures, nor mode, permission and selection: "a call changes the status sequence,
 -- never the selection", "after the last command the mode stays AUTO".
-abbrev pub StepKeeps : Type 0
-StepKeeps = (u : ControlUnit) (seqs lists : List ℕ)
-    → (unitStep u seqs lists .unit .ledger ≡ u .ledger) × (unitStep u seqs lists .unit .control ≡ u .control)
+abbrev pub StepKeeps : Library → Type 0
+StepKeeps L = (u : ControlUnit) (seqs lists : List ℕ)
+    → (L .steps u seqs lists .unit .ledger ≡ u .ledger) × (L .steps u seqs lists .unit .control ≡ u .control)
 
 -- What is seen is idle exactly when nothing runs.
-abbrev pub IdleExactly : Type 0
-IdleExactly = (E : Env) (seqs : List ℕ) (s : Runner) → (stepOf E seqs s .event ≡ Idle) ↔ (s .running ≡ false)
+abbrev pub IdleExactly : Library → Type 0
+IdleExactly L = (E : Env) (seqs : List ℕ) (s : Runner) → ShownAs (L .runs E seqs s .event) idle ↔ (s .running ≡ false)
 
 -- The rows that refuse the command at the runner's place, in the order of document 01 (runner/specs/Judge). Two rows look at more than the
 -- text: the advance "past 2400: 14", and "else call above 127 gives 4", which is a matter of the last round alone.
@@ -381,11 +392,11 @@ faultPlace s c = cond (s .entering) (headerPlace c) (s .place)
 -- does not abort exactly when no row holds.
 pub record AbortsBy (rows : List Row) (s : Runner) (e : Event) : Type 0 where
   pub obeyed : (quiet e ≡ true) ↔ NoneHolds rows
-  pub aborted : (c : ℕ) → 0 < c → (e ≡ Abort c (s .sequence) (faultPlace s c)) ↔ FirstBears c rows
+  pub aborted : (c : ℕ) → 0 < c → ShownAs e (aborts c (s .sequence) (faultPlace s c)) ↔ FirstBears c rows
 
-abbrev pub AbortExactly : Type 0
-AbortExactly = (E : Env) (seqs : List ℕ) (s : Runner) → s .running ≡ true
-    → AbortsBy (rowsOfStep E (textOf E seqs (s .sequence)) s) s (stepOf E seqs s .event)
+abbrev pub AbortExactly : Library → Type 0
+AbortExactly L = (E : Env) (seqs : List ℕ) (s : Runner) → s .running ≡ true
+    → AbortsBy (rowsOfStep E (textOf E seqs (s .sequence)) s) s (L .runs E seqs s .event)
 
 -- "An abort sets place and code, stops the run and changes nothing else."
 pub record Aborted (c n p : ℕ) (was is : ControlUnit) : Type 0 where
@@ -397,37 +408,37 @@ pub record Aborted (c n p : ℕ) (was is : ControlUnit) : Type 0 where
   pub ledger : is .ledger ≡ was .ledger
   pub control : is .control ≡ was .control
 
-abbrev pub AbortKeeps : Type 0
-AbortKeeps = (u : ControlUnit) (seqs lists : List ℕ) (c n p : ℕ) → unitStep u seqs lists .outcome ≡ Saw (Abort c n p)
-    → Aborted c n p u (unitStep u seqs lists .unit)
+abbrev pub AbortKeeps : Library → Type 0
+AbortKeeps L = (u : ControlUnit) (seqs lists : List ℕ) (c n p : ℕ) → Showing (L .steps u seqs lists .outcome) (aborts c n p)
+    → Aborted c n p u (L .steps u seqs lists .unit)
 
 -- ── 5. The check and the window
 
 -- "Given tables (wrong size: 16) and a sequence number (above 127: 7); either answers with nothing listed and totals 0." The check refuses
 -- with c exactly when c is the code of the first row that holds; it follows the chain exactly when none does.
-pub record CheckedBy (rows : List Row) (seqs lists : List ℕ) (n : ℕ) : Type 0 where
-  pub followed : (checkOf seqs lists n ≡ chainOf (envOf lists) seqs n) ↔ NoneHolds rows
-  pub refused : (c : ℕ) → 0 < c → (checkOf seqs lists n ≡ told [] (Unlisted c) 0 0) ↔ FirstBears c rows
+pub record CheckedBy (L : Library) (rows : List Row) (seqs lists : List ℕ) (n : ℕ) : Type 0 where
+  pub followed : (L .checks seqs lists n ≡ chainOf (envOf lists) seqs n) ↔ NoneHolds rows
+  pub refused : (c : ℕ) → 0 < c → (L .checks seqs lists n ≡ told [] (Unlisted c) 0 0) ↔ FirstBears c rows
 
-abbrev pub CheckExactly : Type 0
-CheckExactly = (seqs lists : List ℕ) (n : ℕ) → CheckedBy (checkRows seqs lists n) seqs lists n
+abbrev pub CheckExactly : Library → Type 0
+CheckExactly L = (seqs lists : List ℕ) (n : ℕ) → CheckedBy L (checkRows seqs lists n) seqs lists n
 
 -- "Wrong tables give 16, then a bad length or range 7, each with an empty part."
-pub record WindowBy (rows : List Row) (seqs lists : List ℕ) (a len : ℕ) : Type 0 where
-  pub handed : (windowCode seqs lists a len ≡ 0) ↔ NoneHolds rows
-  pub refused : (c : ℕ) → 0 < c → (windowCode seqs lists a len ≡ c) ↔ FirstBears c rows
-  pub empty : 0 < windowCode seqs lists a len → windowPart seqs lists a len ≡ []
+pub record WindowBy (L : Library) (rows : List Row) (seqs lists : List ℕ) (a len : ℕ) : Type 0 where
+  pub handed : (L .windowCode seqs lists a len ≡ 0) ↔ NoneHolds rows
+  pub refused : (c : ℕ) → 0 < c → (L .windowCode seqs lists a len ≡ c) ↔ FirstBears c rows
+  pub empty : 0 < L .windowCode seqs lists a len → L .windowPart seqs lists a len ≡ []
 
-abbrev pub WindowCodeExactly : Type 0
-WindowCodeExactly = (seqs lists : List ℕ) (a len : ℕ) → WindowBy (windowRows seqs lists a len) seqs lists a len
+abbrev pub WindowCodeExactly : Library → Type 0
+WindowCodeExactly L = (seqs lists : List ℕ) (a len : ℕ) → WindowBy L (windowRows seqs lists a len) seqs lists a len
 
 -- In words: the part is handed exactly when the tables have the right sizes and the range lies wholly in one of them; it is then that
 -- table's own bytes.
-abbrev pub WindowExactly : Type 0
-WindowExactly = (seqs lists : List ℕ) (a len : ℕ)
-    → (windowCode seqs lists a len ≡ 0) ↔ ((length seqs ≡ 16384) × (length lists ≡ 7872) × InOneTable a len)
+abbrev pub WindowExactly : Library → Type 0
+WindowExactly L = (seqs lists : List ℕ) (a len : ℕ)
+    → (L .windowCode seqs lists a len ≡ 0) ↔ ((length seqs ≡ 16384) × (length lists ≡ 7872) × InOneTable a len)
 
-abbrev pub WindowShows : Type 0
-WindowShows = (seqs lists : List ℕ) (a len : ℕ) → windowCode seqs lists a len ≡ 0
-    → (InSequences a len → windowPart seqs lists a len ≡ part seqs (a - 0x070000) len)
-    × (InLineLists a len → windowPart seqs lists a len ≡ part lists (a - 0x074000) len)
+abbrev pub WindowShows : Library → Type 0
+WindowShows L = (seqs lists : List ℕ) (a len : ℕ) → L .windowCode seqs lists a len ≡ 0
+    → (InSequences a len → L .windowPart seqs lists a len ≡ part seqs (a - 0x070000) len)
+    × (InLineLists a len → L .windowPart seqs lists a len ≡ part lists (a - 0x074000) len)

@@ -1,32 +1,33 @@
 -- Demand 3: what the table check promises of the unit. Each definition says a part of it, in plain words and then in symbols.
--- What it speaks of, the check, the step and what a packet leaves, has its names in Subjects.
-use Prim.Native.Nat.{ℕ, zero, suc, _*_, _≤_}
+-- It is a statement of any library L: of its check, its step and what its packets leave (Library).
+use Prim.Native.Nat.{ℕ, zero, suc, _+_, _*_, _≤_}
 use mathlib.Core.Path.{_≡_}
-use mathlib.Core.Bool.{true, cond}
+use mathlib.Core.Bool.{true, false, cond, _||_}
 use mathlib.Core.List.{List, [], _∷_, _++_}
+use mathlib.Core.Logic.{_⊎_}
 use lib.ListN.{length}
 use Rattle.octets.specs.Bytes.{byteAt}
 use Rattle.memory.specs.Memory.{entryOf}
+use Rattle.sequence.specs.declared.Command.{Command}
+use Rattle.sequence.specs.declared.Command.the-variants.{CallSequence, Terminate}
 use Rattle.sequence.specs.declared.RasterWords.{RasterWords}
-use Rattle.sequence.specs.Text.{commandAt}
+use Rattle.sequence.specs.Text.{commandAt, isRunRaster}
 use Rattle.sequence.specs.Starts.{startsOf, among}
 use Rattle.sequence.specs.Raster.{rasterAt, startOf}
 use Rattle.runner.specs.declared.Event.{Event}
-use Rattle.runner.specs.declared.Event.the-variants.{Idle, Enter, Raster, Exp, Loop, Next, Done, Wait, Call, End, Abort}
-use Rattle.runner.specs.Judge.{isRunRaster}
+use Rattle.runner.specs.declared.Event.the-variants.{Enter, Raster, Exp}
 use Rattle.survey.specs.declared.Ending.{Ending}
-use Rattle.survey.specs.declared.Ending.the-variants.{Unlisted, Finishes, Returns, Faulty}
+use Rattle.survey.specs.declared.Ending.the-variants.{Finishes, Returns, Faulty}
 use Rattle.survey.specs.Turns.{turns}
 use Rattle.survey.specs.Items.{positionAt}
 use Rattle.survey.specs.Chain.{Told}
+use Rattle.survey.specs.Report.{endingAs, endingShown}
 use Rattle.unit.specs.declared.Unit.{Unit as ControlUnit}
 use Rattle.unit.specs.declared.Outcome.{Outcome}
 use Rattle.unit.specs.declared.Outcome.the-variants.{Denied, Saw}
-use Rattle.unit.specs.State.{powerOn}
-use Rattle.promises.specs.Runs.{quiet, positionShown, AtDoor}
+use Rattle.promises.specs.Runs.{isA, Showing, idle, enters, aborts, quiet, positionShown, AtDoor}
 use Rattle.promises.specs.Positions.{NonePast}
-use Rattle.promises.specs.Kept.{IsPassed}
-use Rattle.promises.specs.Subjects.{theCheck, theStep, theAnswer, theSeqs, theLists}
+use Rattle.promises.specs.Library.{Library}
 
 -- ── 1. The unit, and what is done to it
 
@@ -45,29 +46,29 @@ pub data Action : Type 0 where
   packet : (out : List ℕ) (time : ℕ) (bytes : List ℕ) → Action
 
 -- What an action leaves. The tables are "written only by uplinks": nothing changes them but what the unit does with a packet.
-abbrev pub after : Action → World → World
-after step w = world (theStep (w .unit) (w .seqs) (w .lists) .unit) (w .seqs) (w .lists)
-after (packet out time bytes) w =
-    world (theAnswer (w .unit) time (w .seqs) (w .lists) out bytes .unit)
-    (theSeqs (w .unit) (w .seqs) (w .lists) out bytes)
-    (theLists (w .unit) (w .seqs) (w .lists) out bytes)
+abbrev pub after : Library → Action → World → World
+after L step w = world (L .steps (w .unit) (w .seqs) (w .lists) .unit) (w .seqs) (w .lists)
+after L (packet out time bytes) w =
+    world (L .answers (w .unit) time (w .seqs) (w .lists) out bytes .unit)
+    (L .seqsLeft (w .unit) (w .seqs) (w .lists) out bytes)
+    (L .listsLeft (w .unit) (w .seqs) (w .lists) out bytes)
 
-abbrev pub afterAll : List Action → World → World
-afterAll [] w = w
-afterAll (a ∷ acts) w = afterAll acts (after a w)
+abbrev pub afterAll : Library → List Action → World → World
+afterAll L [] w = w
+afterAll L (a ∷ acts) w = afterAll L acts (after L a w)
 
 -- What is seen of the steps among the actions, in order: of each an event, or a denial with its code. So there are as many of them as steps.
-abbrev pub outcomes : List Action → World → List Outcome
-outcomes [] w = []
-outcomes (step ∷ acts) w = theStep (w .unit) (w .seqs) (w .lists) .outcome ∷ outcomes acts (after step w)
-outcomes (packet out time bytes ∷ acts) w = outcomes acts (after (packet out time bytes) w)
+abbrev pub outcomes : Library → List Action → World → List Outcome
+outcomes L [] w = []
+outcomes L (step ∷ acts) w = L .steps (w .unit) (w .seqs) (w .lists) .outcome ∷ outcomes L acts (after L step w)
+outcomes L (packet out time bytes ∷ acts) w = outcomes L acts (after L (packet out time bytes) w)
 
 -- "Demand 3 speaks of states reached from power-on": by any actions, over tables of the right sizes that hold anything. Before a run its
 -- caller may lend others.
-pub data Reached : World → Type 0 where
-  powered : (seqs lists : List ℕ) → length seqs ≡ 16384 → length lists ≡ 7872 → Reached (world powerOn seqs lists)
-  lent : {w : World} (seqs lists : List ℕ) → length seqs ≡ 16384 → length lists ≡ 7872 → Reached w → Reached (world (w .unit) seqs lists)
-  acted : {w : World} (a : Action) → Reached w → Reached (after a w)
+pub data Reached (L : Library) : World → Type 0 where
+  powered : (seqs lists : List ℕ) → length seqs ≡ 16384 → length lists ≡ 7872 → Reached L (world (L .powersOn) seqs lists)
+  lent : {w : World} (seqs lists : List ℕ) → length seqs ≡ 16384 → length lists ≡ 7872 → Reached L w → Reached L (world (w .unit) seqs lists)
+  acted : {w : World} (a : Action) → Reached L w → Reached L (after L a w)
 
 -- ── 2. Selected, started and not called back
 
@@ -82,18 +83,59 @@ selecting n = 0x83 ∷ n ∷ []
 abbrev pub starting : List ℕ
 starting = 0x21 ∷ 0x03 ∷ []
 
-abbrev pub codeFor : List ℕ → ℕ → List ℕ → World → ℕ
-codeFor out time bytes w = theAnswer (w .unit) time (w .seqs) (w .lists) out bytes .code
+abbrev pub codeFor : Library → List ℕ → ℕ → List ℕ → World → ℕ
+codeFor L out time bytes w = L .answers (w .unit) time (w .seqs) (w .lists) out bytes .code
 
--- "Stepped on with no call back to MANUAL": whatever is done, no action takes the unit from AUTO to MANUAL.
-abbrev pub CalledBack : Action → World → Type 0
-CalledBack a w = (modeOf w ≡ 3) × (modeOf (after a w) ≡ 2)
+-- "Stepped on with no call back to MANUAL": whatever is done, no packet 21 02 is answered 0. A step is no call back, whatever it leaves.
+abbrev pub callingBack : List ℕ
+callingBack = 0x21 ∷ 0x02 ∷ []
 
-abbrev pub NeverCalledBack : List Action → World → Type 0
-NeverCalledBack [] w = Unit {0}
-NeverCalledBack (a ∷ acts) w = (CalledBack a w → ⊥) × NeverCalledBack acts (after a w)
+abbrev pub CalledBack : Library → Action → World → Type 0
+CalledBack L step w = ⊥
+CalledBack L (packet out time bytes) w = (bytes ≡ callingBack) × (codeFor L out time bytes w ≡ 0)
 
--- ── 3. The plan: what the tables say is to be seen
+abbrev pub NeverCalledBack : Library → List Action → World → Type 0
+NeverCalledBack L [] w = Unit {0}
+NeverCalledBack L (a ∷ acts) w = (CalledBack L a w → ⊥) × NeverCalledBack L acts (after L a w)
+
+-- ── 3. The chain: what the tables say is to be listed
+
+-- The last of these numbers; d where there is none.
+abbrev pub lastOf : ℕ → List ℕ → ℕ
+lastOf d [] = d
+lastOf d (p ∷ ps) = lastOf p ps
+
+-- The command with which a text ends: the last one that starts in it, counted on from place 4. It calls m, or it terminates.
+abbrev pub closingOf : List ℕ → Command
+closingOf text = commandAt text (lastOf 0 (startsOf text))
+
+abbrev pub Calling : List ℕ → ℕ → ℕ → Type 0
+Calling seqs n m = closingOf (entryOf seqs n) ≡ CallSequence m
+
+abbrev pub Terminating : List ℕ → ℕ → Type 0
+Terminating seqs n = closingOf (entryOf seqs n) ≡ Terminate
+
+-- "Follows the call, and ends at terminate or at a sequence already listed." The chain from sequence n has these names in order: the first is n,
+-- and each next one is the call of the one before. The last one terminates; or its call is listed, and the chain returns; or the fault is in it.
+pub data Chain (seqs listed : List ℕ) : ℕ → List ℕ → Ending → Type 0 where
+  last-terminates : {n : ℕ} → Terminating seqs n → Chain seqs listed n (n ∷ []) Finishes
+  last-returns : {n m : ℕ} → Calling seqs n m → among m listed ≡ true → Chain seqs listed n (n ∷ []) Returns
+  last-faulty : {n code place : ℕ} → Chain seqs listed n (n ∷ []) (Faulty code n place)
+  then-called : {n m : ℕ} {names : List ℕ} {ending : Ending} → Calling seqs n m → Chain seqs listed m names ending → Chain seqs listed n (n ∷ names) ending
+
+-- "The listed ones once each": no two are the same.
+abbrev pub Differ : List ℕ → Type 0
+Differ [] = Unit {0}
+Differ (n ∷ ns) = (among n ns ≡ false) × Differ ns
+
+-- What the check tells of the chain from sequence n: it has an answer, the names are that chain's, and no one is listed twice.
+pub record Lists (seqs : List ℕ) (n : ℕ) (t : Told) : Type 0 where
+  pub chain : Chain seqs (t .names) n (t .names) (t .ending)
+  pub differ : Differ (t .names)
+  -- "a fault gives .. totals 0"
+  pub totals : endingShown (t .ending) .number ≡ 3 → (t .steps ≡ 0) × (t .exposures ≡ 0)
+
+-- ── 4. The plan: what the tables say is to be seen
 
 -- `turns 0 n (λ k left. ..)` is what stands there for k = 0, 1, .. up to n - 1, one after another.
 
@@ -129,7 +171,7 @@ abbrev pub chainPlan : List ℕ → List ℕ → List Event
 chainPlan seqs [] = []
 chainPlan seqs (n ∷ ns) = sequencePlan n (entryOf seqs n) ++ chainPlan seqs ns
 
--- ── 4. What is seen
+-- ── 5. What is seen
 
 -- The events of the steps that were not denied.
 abbrev pub eventsOf : List Outcome → List Event
@@ -142,19 +184,9 @@ abbrev pub each : {A : Type 0} → (Event → List A) → List Event → List A
 each f [] = []
 each f (e ∷ es) = f e ++ each f es
 
--- A landmark is an event that enters a sequence, begins a raster or makes an exposure.
+-- A landmark is an event that enters a sequence, begins a raster or makes an exposure: ENTER 1, RASTER 2, EXP 3.
 abbrev pub landmark : Event → List Event
-landmark Idle = []
-landmark (Enter n) = Enter n ∷ []
-landmark (Raster id pos list) = Raster id pos list ∷ []
-landmark (Exp pos) = Exp pos ∷ []
-landmark (Loop place) = []
-landmark Next = []
-landmark Done = []
-landmark (Wait t) = []
-landmark (Call n) = []
-landmark End = []
-landmark (Abort code n place) = []
+landmark e = cond (isA 1 e || (isA 2 e || isA 3 e)) (e ∷ []) []
 
 -- Where the exposures among these events were made.
 abbrev pub exposedAt : List Event → List ℕ
@@ -166,7 +198,7 @@ GoesWell (Denied code) = ⊥
 GoesWell (Saw e) = quiet e ≡ true
 
 abbrev pub IsIdle : Outcome → Type 0
-IsIdle o = o ≡ Saw Idle
+IsIdle o = Showing o idle
 
 abbrev pub Works : Outcome → Type 0
 Works o = GoesWell o × (IsIdle o → ⊥)
@@ -182,16 +214,33 @@ FirstThen k P Q [] = Unit {0}
 FirstThen zero P Q (o ∷ os) = Q (o ∷ os)
 FirstThen (suc k) P Q (o ∷ os) = P o × FirstThen k P Q os
 
--- ── 5. The demand
+-- ── 6. The demand
 
--- How it goes on after the last command listed. A chain that ends has stopped: every step is idle. One that returns enters a listed
--- sequence again. At a fault the next step is the abort, and after it every step is idle.
-abbrev pub GoesOn : Ending → List ℕ → List Outcome → Type 0
-GoesOn ending names [] = Unit {0}
-GoesOn (Unlisted code) names (o ∷ os) = ⊥
-GoesOn Finishes names (o ∷ os) = IsIdle o × All IsIdle os
-GoesOn Returns names (o ∷ os) = (n : ℕ) × (among n names ≡ true) × (o ≡ Saw (Enter n))
-GoesOn (Faulty code n place) names (o ∷ os) = (o ≡ Saw (Abort code n place)) × All IsIdle os
+-- An ending by the paper's number and values for it (survey/specs/Report): 1 ends, 2 returns, 3 fault with its code, sequence and place.
+abbrev pub Ends : Ending → Type 0
+Ends e = endingShown e ≡ endingAs 1 0 0 0
+
+abbrev pub ComesBack : Ending → Type 0
+ComesBack e = endingShown e ≡ endingAs 2 0 0 0
+
+abbrev pub EndsOrReturns : Ending → Type 0
+EndsOrReturns e = Ends e ⊎ ComesBack e
+
+abbrev pub HasFault : ℕ → ℕ → ℕ → Ending → Type 0
+HasFault code n place e = endingShown e ≡ endingAs 3 code n place
+
+-- How a run that the check passed goes on after the last command listed. A chain that ends has stopped: every step is idle. One that returns
+-- enters the sequence that the last one calls, a listed one.
+abbrev pub GoesOn : List ℕ → Ending → List ℕ → List Outcome → Type 0
+GoesOn seqs ending names [] = Unit {0}
+GoesOn seqs ending names (o ∷ os) =
+    (Ends ending → All IsIdle (o ∷ os))
+    × (ComesBack ending → (n : ℕ) × Calling seqs (lastOf 0 names) n × (among n names ≡ true) × Showing o (enters n))
+
+-- How one with a fault goes on: the next step is the abort, and after it every step is idle.
+abbrev pub AbortsAt : ℕ → ℕ → ℕ → List Outcome → Type 0
+AbortsAt code n place [] = Unit {0}
+AbortsAt code n place (o ∷ os) = Showing o (aborts code n place) × All IsIdle os
 
 -- A run that the check passed, as far as it was stepped on.
 pub record RunsAsTold (seqs : List ℕ) (t : Told) (os : List Outcome) : Type 0 where
@@ -200,94 +249,112 @@ pub record RunsAsTold (seqs : List ℕ) (t : Told) (os : List Outcome) : Type 0 
   -- no exposure is "past the end stop"
   pub inReach : NonePast 2400 (exposedAt (eventsOf os))
   -- "the steps to the last command it lists equal the numbers it reports": so many steps work, and then it goes on as the chain ends
-  pub steps : FirstThen (t .steps) Works (GoesOn (t .ending) (t .names)) os
+  pub steps : FirstThen (t .steps) Works (GoesOn seqs (t .ending) (t .names)) os
   -- with these steps the listed sequences are entered in order, and "in each round of its sequence a raster takes exactly loops times
   -- exposures times repeats, each exposure at the position the formula gives"
   pub planned : length os ≡ t .steps → each landmark (eventsOf os) ≡ chainPlan seqs (t .names)
   -- "the exposures .. equal the numbers it reports"
   pub exposures : length os ≡ t .steps → length (exposedAt (eventsOf os)) ≡ t .exposures
 
--- "If the check passed it": from s on, whatever is done but a call back, it runs as the check told.
-abbrev pub KeepsPassed : Told → World → Type 0
-KeepsPassed t s = IsPassed (t .ending) → (acts : List Action) → NeverCalledBack acts s → RunsAsTold (s .seqs) t (outcomes acts s)
+-- "If the check passed it", that is, the chain ends or returns: from s on, whatever is done but a call back, it runs as the check told.
+abbrev pub KeepsPassed : Library → Told → World → Type 0
+KeepsPassed L t s = EndsOrReturns (t .ending) → (acts : List Action) → NeverCalledBack L acts s → RunsAsTold (s .seqs) t (outcomes L acts s)
 
 -- "If the check found a fault, the run aborts at that sequence and byte, with that code": from s on a number of steps work, and then
 -- it aborts, whatever is done but a call back.
-abbrev pub KeepsFaulted : Told → World → Type 0
-KeepsFaulted t s = (code n place : ℕ) → t .ending ≡ Faulty code n place
-    → (k : ℕ) × ((acts : List Action) → NeverCalledBack acts s → FirstThen k Works (GoesOn (Faulty code n place) (t .names)) (outcomes acts s))
+abbrev pub KeepsFaulted : Library → Told → World → Type 0
+KeepsFaulted L t s = (code n place : ℕ) → HasFault code n place (t .ending)
+    → (k : ℕ) × ((acts : List Action) → NeverCalledBack L acts s → FirstThen k Works (AbortsAt code n place) (outcomes L acts s))
 
--- There is no third case: the check does not refuse to answer.
-abbrev pub HasAnswer : Told → Type 0
-HasAnswer t = (code : ℕ) → t .ending ≡ Unlisted code → ⊥
-
--- The demand. In MANUAL the packets 83 n and 21 03 are obeyed, one after the other, and what the check told of sequence n before is kept.
-abbrev pub Demand3 : Type 0
-Demand3 = (w : World) → Reached w → modeOf w ≡ 2 → (n : ℕ) → n ≤ 127
+-- The demand. In MANUAL the packets 83 n and 21 03 are obeyed, one after the other; the check lists the chain from sequence n, and what it told
+-- is kept.
+abbrev pub Demand3 : Library → Type 0
+Demand3 L = (w : World) → Reached L w → modeOf w ≡ 2 → (n : ℕ) → n ≤ 127
     → (out out′ : List ℕ) → 16384 ≤ length out → 16384 ≤ length out′ → (time time′ : ℕ)
-    → let t = theCheck (w .seqs) (w .lists) n in
-    let v = after (packet out time (selecting n)) w in
-    let s = after (packet out′ time′ starting) v in
-    (codeFor out time (selecting n) w ≡ 0) × (codeFor out′ time′ starting v ≡ 0) × HasAnswer t × KeepsPassed t s × KeepsFaulted t s
+    → let t = L .checks (w .seqs) (w .lists) n in
+    let v = after L (packet out time (selecting n)) w in
+    let s = after L (packet out′ time′ starting) v in
+    (codeFor L out time (selecting n) w ≡ 0) × (codeFor L out′ time′ starting v ≡ 0) × Lists (w .seqs) n t × KeepsPassed L t s × KeepsFaulted L t s
 
--- ── 6. Besides
+-- ── 7. Besides
 
 -- "A raster takes exactly loops times exposures times repeats": so many exposures are in its plan.
 abbrev pub RasterTakes : Type 0
 RasterTakes = (raster : RasterWords) → length (exposedAt (rasterPlan raster)) ≡ raster .loops * raster .exposures * raster .repeats
 
 -- It is not said of nothing: over any tables of the right sizes 20 and 21 02 take the unit from power-on to MANUAL.
-abbrev pub Applies : Type 0
-Applies = (seqs lists : List ℕ) → length seqs ≡ 16384 → length lists ≡ 7872
+abbrev pub Applies : Library → Type 0
+Applies L = (seqs lists : List ℕ) → length seqs ≡ 16384 → length lists ≡ 7872
     → (out out′ : List ℕ) → 16384 ≤ length out → 16384 ≤ length out′ → (time time′ : ℕ)
-    → let v = after (packet out time (0x20 ∷ [])) (world powerOn seqs lists) in
-    let w = after (packet out′ time′ (0x21 ∷ 0x02 ∷ [])) v in
-    Reached w × (modeOf w ≡ 2) × (w .seqs ≡ seqs) × (w .lists ≡ lists)
+    → let v = after L (packet out time (0x20 ∷ [])) (world (L .powersOn) seqs lists) in
+    let w = after L (packet out′ time′ (0x21 ∷ 0x02 ∷ [])) v in
+    Reached L w × (modeOf w ≡ 2) × (w .seqs ≡ seqs) × (w .lists ≡ lists)
 
 -- Sequence n can be started: the unit was reached from power-on, it is in MANUAL, and n is selected.
-pub record Selected (n : ℕ) (w : World) : Type 0 where
-  pub reached : Reached w
+pub record Selected (L : Library) (n : ℕ) (w : World) : Type 0 where
+  pub reached : Reached L w
   pub manual : modeOf w ≡ 2
   pub selection : w .unit .control .selection ≡ n
   pub known : n ≤ 127
 
 -- 83 n is obeyed in MANUAL. Sequence n is then selected, over the same tables.
-abbrev pub Selects : Type 0
-Selects = (w : World) → Reached w → modeOf w ≡ 2 → (n : ℕ) → n ≤ 127 → (out : List ℕ) → 16384 ≤ length out → (time : ℕ)
-    → (codeFor out time (selecting n) w ≡ 0)
-    × Selected n (after (packet out time (selecting n)) w)
-    × (after (packet out time (selecting n)) w .seqs ≡ w .seqs)
-    × (after (packet out time (selecting n)) w .lists ≡ w .lists)
+abbrev pub Selects : Library → Type 0
+Selects L = (w : World) → Reached L w → modeOf w ≡ 2 → (n : ℕ) → n ≤ 127 → (out : List ℕ) → 16384 ≤ length out → (time : ℕ)
+    → (codeFor L out time (selecting n) w ≡ 0)
+    × Selected L n (after L (packet out time (selecting n)) w)
+    × (after L (packet out time (selecting n)) w .seqs ≡ w .seqs)
+    × (after L (packet out time (selecting n)) w .lists ≡ w .lists)
 
 -- The unit is about to enter sequence n: it was reached from power-on, it runs in AUTO, "entering comes first", and no raster is open.
-pub record AboutToEnter (n : ℕ) (s : World) : Type 0 where
-  pub reached : Reached s
+pub record AboutToEnter (L : Library) (n : ℕ) (s : World) : Type 0 where
+  pub reached : Reached L s
   pub auto : modeOf s ≡ 3
   pub door : AtDoor n (s .unit .runner .mirror) (s .unit .runner)
   pub known : n ≤ 127
 
 -- 21 03 is then obeyed. The unit is about to enter the selected sequence, over the same tables.
-abbrev pub Starts : Type 0
-Starts = (n : ℕ) (w : World) → Selected n w → (out : List ℕ) → 16384 ≤ length out → (time : ℕ)
-    → (codeFor out time starting w ≡ 0)
-    × AboutToEnter n (after (packet out time starting) w)
-    × (after (packet out time starting) w .seqs ≡ w .seqs)
-    × (after (packet out time starting) w .lists ≡ w .lists)
+abbrev pub Starts : Library → Type 0
+Starts L = (n : ℕ) (w : World) → Selected L n w → (out : List ℕ) → 16384 ≤ length out → (time : ℕ)
+    → (codeFor L out time starting w ≡ 0)
+    × AboutToEnter L n (after L (packet out time starting) w)
+    × (after L (packet out time starting) w .seqs ≡ w .seqs)
+    × (after L (packet out time starting) w .lists ≡ w .lists)
 
 -- The demand for a unit that is about to enter a sequence, whatever came between the two packets: what the check tells is kept.
-abbrev pub Passed : Type 0
-Passed = (n : ℕ) (s : World) → AboutToEnter n s → KeepsPassed (theCheck (s .seqs) (s .lists) n) s
+abbrev pub Passed : Library → Type 0
+Passed L = (n : ℕ) (s : World) → AboutToEnter L n s → KeepsPassed L (L .checks (s .seqs) (s .lists) n) s
 
-abbrev pub Faulted : Type 0
-Faulted = (n : ℕ) (s : World) → AboutToEnter n s → KeepsFaulted (theCheck (s .seqs) (s .lists) n) s
+abbrev pub Faulted : Library → Type 0
+Faulted L = (n : ℕ) (s : World) → AboutToEnter L n s → KeepsFaulted L (L .checks (s .seqs) (s .lists) n) s
 
--- A chain that returns goes round for good. After its last command listed the unit is about to enter a listed sequence, over the same
--- tables, and the check passes that one too: so all of this holds again.
-abbrev pub Returning : Type 0
-Returning = (n : ℕ) (s : World) → AboutToEnter n s → theCheck (s .seqs) (s .lists) n .ending ≡ Returns
-    → (acts : List Action) → NeverCalledBack acts s → length (outcomes acts s) ≡ theCheck (s .seqs) (s .lists) n .steps
-    → (m : ℕ) × (among m (theCheck (s .seqs) (s .lists) n .names) ≡ true)
-    × AboutToEnter m (afterAll acts s)
-    × (afterAll acts s .seqs ≡ s .seqs)
-    × (afterAll acts s .lists ≡ s .lists)
-    × IsPassed (theCheck (s .seqs) (s .lists) m .ending)
+-- A chain that returns goes round for good. After its last command listed the unit is about to enter the sequence m that the last one calls, over
+-- the same tables; what the check tells of m returns too, and lists what comes again: the part of these names from m on. So all of this holds again.
+pub record Again (L : Library) (seqs lists : List ℕ) (n m : ℕ) : Type 0 where
+  pub called : Calling seqs (lastOf 0 (L .checks seqs lists n .names)) m
+  pub once : List ℕ
+  pub part : L .checks seqs lists n .names ≡ once ++ L .checks seqs lists m .names
+  pub returns : ComesBack (L .checks seqs lists m .ending)
+
+abbrev pub Returning : Library → Type 0
+Returning L = (n : ℕ) (s : World) → AboutToEnter L n s → ComesBack (L .checks (s .seqs) (s .lists) n .ending)
+    → (m : ℕ) × Again L (s .seqs) (s .lists) n m
+    × ((acts : List Action) → NeverCalledBack L acts s → length (outcomes L acts s) ≡ L .checks (s .seqs) (s .lists) n .steps
+    → AboutToEnter L m (afterAll L acts s) × (afterAll L acts s .seqs ≡ s .seqs) × (afterAll L acts s .lists ≡ s .lists))
+
+-- In one statement. Whatever is done but a call back, and however far it is stepped on: every step works, so none is an abort or idle; after the
+-- steps told and k times those of the part that comes again, what is seen is the plan of the whole chain and then k times that of the part; in
+-- between it is the beginning of such a plan.
+abbrev pub lapsPlan : List ℕ → List ℕ → List ℕ → ℕ → List Event
+lapsPlan seqs names part k = chainPlan seqs names ++ turns 0 k (λ lap left. chainPlan seqs part)
+
+pub record GoesRound (seqs : List ℕ) (chain part : Told) (os : List Outcome) : Type 0 where
+  pub works : All Works os
+  pub laps : (k : ℕ) → length os ≡ chain .steps + k * part .steps → each landmark (eventsOf os) ≡ lapsPlan seqs (chain .names) (part .names) k
+  pub under-way : (k : ℕ) → length os ≤ chain .steps + k * part .steps
+      → (rest : List Event) × (each landmark (eventsOf os) ++ rest ≡ lapsPlan seqs (chain .names) (part .names) k)
+
+abbrev pub EveryLap : Library → Type 0
+EveryLap L = (n : ℕ) (s : World) → AboutToEnter L n s → ComesBack (L .checks (s .seqs) (s .lists) n .ending)
+    → (m : ℕ) × Again L (s .seqs) (s .lists) n m
+    × ((acts : List Action) → NeverCalledBack L acts s
+    → GoesRound (s .seqs) (L .checks (s .seqs) (s .lists) n) (L .checks (s .seqs) (s .lists) m) (outcomes L acts s))

@@ -3,7 +3,7 @@
 use Prim.Native.Nat.{ℕ, _+_, _-_, _≤_, _<_}
 use mathlib.Core.Path.{_≡_}
 use mathlib.Core.Bool.{true, false, cond}
-use mathlib.Core.List.{List}
+use mathlib.Core.List.{List, [], _∷_}
 use Rattle.octets.specs.Bytes.{byteAt}
 use Rattle.octets.specs.Rows.{NoneHolds}
 use Rattle.memory.specs.declared.Place.{Place}
@@ -13,11 +13,15 @@ use Rattle.sequence.specs.Text.{headerRows, commandAt, sizeAt}
 use Rattle.sequence.specs.Raster.{rasterAt}
 use Rattle.sequence.specs.Env.{Env, textOf}
 use Rattle.runner.specs.declared.Runner.{Runner}
-use Rattle.runner.specs.declared.Event.the-variants.{Enter, Raster, Exp, Loop, Next, Done, Wait, Call, End}
+use Rattle.runner.specs.declared.Stepped.{Stepped}
 use Rattle.runner.specs.declared.Opened.the-variants.{Open}
 use Rattle.runner.specs.Judge.{isOpen, setOf}
-use Rattle.runner.specs.Step.{to, openOf, stepOf}
+use Rattle.runner.specs.Events.{Shown, shows, shownAs}
+use Rattle.runner.specs.Step.{openOf}
 use Rattle.runner.specs.With.{withSequence, withPlace, withRunning, withEntering, withRaster, withCount, withPasses, withRepeats, withRounds, withMirror}
+use Rattle.unit.specs.declared.Watch.{Watch}
+use Rattle.unit.specs.Step.{watched}
+use Rattle.promises.specs.Library.{Library}
 use Rattle.promises.specs.Demand2.{commandRows}
 
 -- A runner s stands in its sequence's text, at a place; after this command comes the next.
@@ -34,76 +38,80 @@ pub record Obeys (E : Env) (seqs : List ℕ) (s : Runner) (k : Command) : Type 0
   pub command : commandAt (here E seqs s) (s .place) ≡ k
   pub accepted : NoneHolds (commandRows E (here E seqs s) s k)
 
--- Below, `to EVENT (withX .. (withY .. s))` is a step that shows EVENT and leaves the runner s with X and Y changed, and nothing else.
+-- A step shows this: the paper's word, number and values for its event (runner/specs/Events), with the status count after it. And it leaves this
+-- runner: below, `withX .. (withY .. s)` is the runner s with X and Y changed, and nothing else.
+pub record Takes (r : Stepped) (seen : ℕ → Shown) (left : Runner) : Type 0 where
+  pub shows : (count : ℕ) → shownAs count (r .event) ≡ seen count
+  pub leaves : r .runner ≡ left
 
 -- "Entering a sequence is one step": place 4, and as many rounds as byte 3 says.
-abbrev pub EnterStep : Type 0
-EnterStep = (E : Env) (seqs : List ℕ) (s : Runner) → s .running ≡ true → s .entering ≡ true → NoneHolds (headerRows (here E seqs s))
-    → stepOf E seqs s ≡ to (Enter (s .sequence)) (withEntering false (withPlace 4 (withRounds (byteAt (here E seqs s) 3) s)))
+abbrev pub EnterStep : Library → Type 0
+EnterStep L = (E : Env) (seqs : List ℕ) (s : Runner) → s .running ≡ true → s .entering ≡ true → NoneHolds (headerRows (here E seqs s))
+    → Takes (L .runs E seqs s) (λ count. shows "ENTER" 1 (s .sequence ∷ [])) (withEntering false (withPlace 4 (withRounds (byteAt (here E seqs s) 3) s)))
 
 -- "Run raster: .. The mirror goes home, then to initial; the status takes the line list." A new set begins, with all passes; and all repeats,
 -- unless the raster is open already: "a repeat's jump back .. doesn't reload repeats".
-abbrev pub RasterStep : Type 0
-RasterStep = (E : Env) (seqs : List ℕ) (s : Runner) → Obeys E seqs s RunRaster
+abbrev pub RasterStep : Library → Type 0
+RasterStep L = (E : Env) (seqs : List ℕ) (s : Runner) → Obeys E seqs s RunRaster
     → let raster = rasterAt (here E seqs s) (s .place) in
-    stepOf E seqs s
-    ≡ to (Raster (raster .id) (raster .initial) (raster .list))
+    Takes (L .runs E seqs s) (λ count. shows "RASTER" 2 (raster .id ∷ raster .initial ∷ []))
     (withPlace (next E seqs s)
     (withRaster (s .place)
     (withCount 0
     (withPasses (raster .loops)
     (withRepeats (cond (isOpen (openOf s)) (s .repeats) (raster .repeats))
     (withMirror (raster .initial) s))))))
+    × ((w : Watch) → watched (L .runs E seqs s .event) w .list ≡ raster .list)
 
 -- "Expose": one exposure more in the set, where the mirror stands. "When this fills the set and passes remain, the mirror advances one step
 -- after it": then and only then.
-abbrev pub ExposeAdvances : Type 0
-ExposeAdvances = (E : Env) (seqs : List ℕ) (s : Runner) (time : ℕ) (r : Place) (c : ℕ) → Obeys E seqs s (Expose time) → openOf s ≡ Open r c
+abbrev pub ExposeAdvances : Library → Type 0
+ExposeAdvances L = (E : Env) (seqs : List ℕ) (s : Runner) (time : ℕ) (r : Place) (c : ℕ) → Obeys E seqs s (Expose time) → openOf s ≡ Open r c
     → let raster = rasterAt (here E seqs s) (r .0) in
     1 < s .passes → s .count + 1 ≡ setOf raster
-    → stepOf E seqs s ≡ to (Exp (s .mirror)) (withPlace (next E seqs s) (withCount (s .count + 1) (withMirror (s .mirror + raster .step) s)))
+    → Takes (L .runs E seqs s) (λ count. shows "EXP" 3 (count ∷ s .mirror ∷ [])) (withPlace (next E seqs s) (withCount (s .count + 1) (withMirror (s .mirror + raster .step) s)))
 
-abbrev pub ExposeStays : Type 0
-ExposeStays = (E : Env) (seqs : List ℕ) (s : Runner) (time : ℕ) (r : Place) (c : ℕ) → Obeys E seqs s (Expose time) → openOf s ≡ Open r c
+abbrev pub ExposeStays : Library → Type 0
+ExposeStays L = (E : Env) (seqs : List ℕ) (s : Runner) (time : ℕ) (r : Place) (c : ℕ) → Obeys E seqs s (Expose time) → openOf s ≡ Open r c
     → let raster = rasterAt (here E seqs s) (r .0) in
     (1 < s .passes → s .count + 1 ≡ setOf raster → ⊥)
-    → stepOf E seqs s ≡ to (Exp (s .mirror)) (withPlace (next E seqs s) (withCount (s .count + 1) s))
+    → Takes (L .runs E seqs s) (λ count. shows "EXP" 3 (count ∷ s .mirror ∷ [])) (withPlace (next E seqs s) (withCount (s .count + 1) s))
 
 -- "Loop back: .. Passes left: jump, new set." A count left includes the one under way.
-abbrev pub LoopJumps : Type 0
-LoopJumps = (E : Env) (seqs : List ℕ) (s : Runner) (target : ℕ) → Obeys E seqs s (LoopBack target) → 1 < s .passes
-    → stepOf E seqs s ≡ to (Loop target) (withPlace target (withCount 0 (withPasses (s .passes - 1) s)))
+abbrev pub LoopJumps : Library → Type 0
+LoopJumps L = (E : Env) (seqs : List ℕ) (s : Runner) (target : ℕ) → Obeys E seqs s (LoopBack target) → 1 < s .passes
+    → Takes (L .runs E seqs s) (λ count. shows "LOOP" 4 (target ∷ [])) (withPlace target (withCount 0 (withPasses (s .passes - 1) s)))
 
 -- "Else repeats left: one fewer, jump to the run raster."
-abbrev pub LoopRepeats : Type 0
-LoopRepeats = (E : Env) (seqs : List ℕ) (s : Runner) (target : ℕ) → Obeys E seqs s (LoopBack target) → s .passes ≤ 1 → 1 < s .repeats
-    → stepOf E seqs s ≡ to Next (withPlace (s .raster) (withRepeats (s .repeats - 1) s))
+abbrev pub LoopRepeats : Library → Type 0
+LoopRepeats L = (E : Env) (seqs : List ℕ) (s : Runner) (target : ℕ) → Obeys E seqs s (LoopBack target) → s .passes ≤ 1 → 1 < s .repeats
+    → Takes (L .runs E seqs s) (λ count. shows "NEXT" 5 []) (withPlace (s .raster) (withRepeats (s .repeats - 1) s))
 
 -- "Else the raster closes."
-abbrev pub LoopCloses : Type 0
-LoopCloses = (E : Env) (seqs : List ℕ) (s : Runner) (target : ℕ) → Obeys E seqs s (LoopBack target) → s .passes ≤ 1 → s .repeats ≤ 1
-    → stepOf E seqs s ≡ to Done (withPlace (next E seqs s) (withRaster 255 s))
+abbrev pub LoopCloses : Library → Type 0
+LoopCloses L = (E : Env) (seqs : List ℕ) (s : Runner) (target : ℕ) → Obeys E seqs s (LoopBack target) → s .passes ≤ 1 → s .repeats ≤ 1
+    → Takes (L .runs E seqs s) (λ count. shows "DONE" 6 []) (withPlace (next E seqs s) (withRaster 255 s))
 
 -- "Delay (word, any)": it is shown, and the next command comes.
-abbrev pub DelayStep : Type 0
-DelayStep = (E : Env) (seqs : List ℕ) (s : Runner) (time : ℕ) → Obeys E seqs s (Delay time)
-    → stepOf E seqs s ≡ to (Wait time) (withPlace (next E seqs s) s)
+abbrev pub DelayStep : Library → Type 0
+DelayStep L = (E : Env) (seqs : List ℕ) (s : Runner) (time : ℕ) → Obeys E seqs s (Delay time)
+    → Takes (L .runs E seqs s) (λ count. shows "WAIT" 7 (time ∷ [])) (withPlace (next E seqs s) s)
 
 -- "Call, terminate: .. Sequence repeats left: jump to place 4."
-abbrev pub CallRepeats : Type 0
-CallRepeats = (E : Env) (seqs : List ℕ) (s : Runner) (n : ℕ) → Obeys E seqs s (CallSequence n) → 1 < s .rounds
-    → stepOf E seqs s ≡ to Next (withPlace 4 (withRounds (s .rounds - 1) s))
+abbrev pub CallRepeats : Library → Type 0
+CallRepeats L = (E : Env) (seqs : List ℕ) (s : Runner) (n : ℕ) → Obeys E seqs s (CallSequence n) → 1 < s .rounds
+    → Takes (L .runs E seqs s) (λ count. shows "NEXT" 5 []) (withPlace 4 (withRounds (s .rounds - 1) s))
 
-abbrev pub TerminateRepeats : Type 0
-TerminateRepeats = (E : Env) (seqs : List ℕ) (s : Runner) → Obeys E seqs s Terminate → 1 < s .rounds
-    → stepOf E seqs s ≡ to Next (withPlace 4 (withRounds (s .rounds - 1) s))
+abbrev pub TerminateRepeats : Library → Type 0
+TerminateRepeats L = (E : Env) (seqs : List ℕ) (s : Runner) → Obeys E seqs s Terminate → 1 < s .rounds
+    → Takes (L .runs E seqs s) (λ count. shows "NEXT" 5 []) (withPlace 4 (withRounds (s .rounds - 1) s))
 
 -- "Otherwise stop, or make it the status sequence, place 0, entered next." The run goes on after a call; "after END [the place is] the
 -- terminate's".
-abbrev pub CallMade : Type 0
-CallMade = (E : Env) (seqs : List ℕ) (s : Runner) (n : ℕ) → Obeys E seqs s (CallSequence n) → s .rounds ≤ 1
-    → stepOf E seqs s ≡ to (Call n) (withSequence n (withPlace 0 (withEntering true s)))
+abbrev pub CallMade : Library → Type 0
+CallMade L = (E : Env) (seqs : List ℕ) (s : Runner) (n : ℕ) → Obeys E seqs s (CallSequence n) → s .rounds ≤ 1
+    → Takes (L .runs E seqs s) (λ count. shows "CALL" 8 (n ∷ [])) (withSequence n (withPlace 0 (withEntering true s)))
 
-abbrev pub TerminateEnds : Type 0
-TerminateEnds = (E : Env) (seqs : List ℕ) (s : Runner) → Obeys E seqs s Terminate → s .rounds ≤ 1
-    → stepOf E seqs s ≡ to End (withRunning false s)
+abbrev pub TerminateEnds : Library → Type 0
+TerminateEnds L = (E : Env) (seqs : List ℕ) (s : Runner) → Obeys E seqs s Terminate → s .rounds ≤ 1
+    → Takes (L .runs E seqs s) (λ count. shows "END" 9 []) (withRunning false s)

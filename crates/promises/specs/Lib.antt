@@ -2,11 +2,13 @@ pub mod Range
 pub mod Runs
 pub mod Positions
 pub mod Kept
-pub mod Subjects
+pub mod Library
 pub mod Demand3
+pub mod EachCheck
 pub mod Sent
 pub mod Demand1
 pub mod Demand2
 pub mod EachStep
+pub mod Refuted
 pub mod OneAnswer
 pub mod TheCode

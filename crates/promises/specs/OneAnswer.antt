@@ -25,12 +25,11 @@ use Rattle.runner.specs.declared.Act.{Act}
 use Rattle.runner.specs.declared.Stepped.{Stepped}
 use Rattle.survey.proofs as survey
 use Rattle.survey.specs.declared.Report.{Report}
+use Rattle.survey.specs.declared.Walked.{Walked}
 use Rattle.unit.proofs as unit
 use Rattle.line.proofs as line
 use Rattle.line.specs.declared.Line.{Line}
-use Rattle.line.specs.declared.Figure.{Figure}
 use Rattle.line.specs.declared.Numeral.{Numeral}
-use Rattle.line.specs.declared.Span.{Span}
 use Rattle.keel.proofs as keel
 use Rattle.unit.specs.declared.Unit.{Unit as ControlUnit}
 use Rattle.unit.specs.declared.Kind.{Kind}
@@ -65,6 +64,12 @@ OneOctetsXorOn = One ℕ octets.xor_on.Kinds.ps octets.xor_on.Kinds.r octets.xor
 abbrev pub OneOctetsRefuse : Type 0
 OneOctetsRefuse = One ℕ octets.refuse.Kinds.ps octets.refuse.Kinds.r octets.refuse.Reads.Learnt (λ κs r e. r)
 
+abbrev pub OneOctetsPair : Type 0
+OneOctetsPair = One ℕ octets.pair.Kinds.ps octets.pair.Kinds.r octets.pair.Reads.Learnt (λ κs r e. r)
+
+abbrev pub OneOctetsEither : Type 0
+OneOctetsEither = One Bool octets.either.Kinds.ps octets.either.Kinds.r octets.either.Reads.Learnt (λ κs r e. r)
+
 -- ── memory
 abbrev pub OneMemoryPlaceOf : Type 0
 OneMemoryPlaceOf = One Placed memory.Place.of.Kinds.ps memory.Place.of.Kinds.r memory.Place.of.Reads.Learnt (λ κs r e. r)
@@ -81,6 +86,15 @@ OneMemoryAddressRange = One Range memory.Address.range.Kinds.ps memory.Address.r
 abbrev pub OneMemoryRangeAt : Type 0
 OneMemoryRangeAt = One Range memory.range_at.Kinds.ps memory.range_at.Kinds.r memory.range_at.Reads.Learnt (λ κs r e. r)
 
+abbrev pub OneMemoryAddressedRange : Type 0
+OneMemoryAddressedRange = One Range memory.Addressed.range.Kinds.ps memory.Addressed.range.Kinds.r memory.Addressed.range.Reads.Learnt (λ κs r e. r)
+
+abbrev pub OneMemoryRangeIsWrong : Type 0
+OneMemoryRangeIsWrong = One Bool memory.Range.is_wrong.Kinds.ps memory.Range.is_wrong.Kinds.r memory.Range.is_wrong.Reads.Learnt (λ κs r e. r)
+
+abbrev pub OneMemoryPartOf : Type 0
+OneMemoryPartOf = One (List ℕ) memory.part_of.Kinds.ps memory.part_of.Kinds.r memory.part_of.Reads.Learnt (λ κs r e. now r)
+
 abbrev pub OneMemoryTablesWrong : Type 0
 OneMemoryTablesWrong = One Bool memory.tables_wrong.Kinds.ps memory.tables_wrong.Kinds.r memory.tables_wrong.Reads.Learnt (λ κs r e. r)
 
@@ -94,7 +108,7 @@ abbrev pub OneMemoryWrite : Type 0
 OneMemoryWrite = One (List ℕ) memory.write.Kinds.ps memory.write.Kinds.r memory.write.Reads.Learnt (λ κs r e. now (e .0))
 
 abbrev pub OneMemoryWriteRange : Type 0
-OneMemoryWriteRange = One (List ℕ × List ℕ) memory.write_range.Kinds.ps memory.write_range.Kinds.r memory.write_range.Reads.Learnt (λ κs r e. (now (e .0), now (e .1 .0)))
+OneMemoryWriteRange = One (List ℕ × List ℕ) memory.write_range.Kinds.ps memory.write_range.Kinds.r memory.write_range.Reads.Learnt (λ κs r (seqs, (lists, _)). (now seqs, now lists))
 
 abbrev pub OneMemoryEntry : Type 0
 OneMemoryEntry = One (List ℕ) memory.entry.Kinds.ps memory.entry.Kinds.r memory.entry.Reads.Learnt (λ κs r e. now r)
@@ -108,6 +122,24 @@ OneSequenceSizeOf = One ℕ sequence.size_of.Kinds.ps sequence.size_of.Kinds.r s
 
 abbrev pub OneSequenceLimit : Type 0
 OneSequenceLimit = One ℕ sequence.limit.Kinds.ps sequence.limit.Kinds.r sequence.limit.Reads.Learnt (λ κs r e. r)
+
+abbrev pub OneSequenceIdAt : Type 0
+OneSequenceIdAt = One ℕ sequence.id_at.Kinds.ps sequence.id_at.Kinds.r sequence.id_at.Reads.Learnt (λ κs r e. r)
+
+abbrev pub OneSequenceInitialAt : Type 0
+OneSequenceInitialAt = One ℕ sequence.initial_at.Kinds.ps sequence.initial_at.Kinds.r sequence.initial_at.Reads.Learnt (λ κs r e. r)
+
+abbrev pub OneSequenceLoopsAt : Type 0
+OneSequenceLoopsAt = One ℕ sequence.loops_at.Kinds.ps sequence.loops_at.Kinds.r sequence.loops_at.Reads.Learnt (λ κs r e. r)
+
+abbrev pub OneSequenceRepeatsAt : Type 0
+OneSequenceRepeatsAt = One ℕ sequence.repeats_at.Kinds.ps sequence.repeats_at.Kinds.r sequence.repeats_at.Reads.Learnt (λ κs r e. r)
+
+abbrev pub OneSequenceListAt : Type 0
+OneSequenceListAt = One ℕ sequence.list_at.Kinds.ps sequence.list_at.Kinds.r sequence.list_at.Reads.Learnt (λ κs r e. r)
+
+abbrev pub OneSequenceRasterStands : Type 0
+OneSequenceRasterStands = One Bool sequence.raster_stands.Kinds.ps sequence.raster_stands.Kinds.r sequence.raster_stands.Reads.Learnt (λ κs r e. r)
 
 abbrev pub OneSequenceLengthGood : Type 0
 OneSequenceLengthGood = One Bool sequence.length_good.Kinds.ps sequence.length_good.Kinds.r sequence.length_good.Reads.Learnt (λ κs r e. r)
@@ -153,6 +185,9 @@ OneRunnerRunnerStep = One Stepped runner.Runner.step.Kinds.ps runner.Runner.step
 abbrev pub OneSurveyCheck : Type 0
 OneSurveyCheck = One Report survey.check.Kinds.ps survey.check.Kinds.r survey.check.Reads.Learnt (λ κs r e. r)
 
+abbrev pub OneSurveyCheckOne : Type 0
+OneSurveyCheckOne = One Walked survey.check_one.Kinds.ps survey.check_one.Kinds.r survey.check_one.Reads.Learnt (λ κs r e. r)
+
 -- ── unit
 abbrev pub OneUnitUnitPowerOn : Type 0
 OneUnitUnitPowerOn = One ControlUnit unit.Unit.power_on.Kinds.ps unit.Unit.power_on.Kinds.r unit.Unit.power_on.Reads.Learnt (λ κs r e. r)
@@ -163,8 +198,11 @@ OneUnitUnitOutOfRange = One Bool unit.Unit.out_of_range.Kinds.ps unit.Unit.out_o
 abbrev pub OneUnitKindOf : Type 0
 OneUnitKindOf = One Kind unit.kind_of.Kinds.ps unit.kind_of.Kinds.r unit.kind_of.Reads.Learnt (λ κs r e. r)
 
+abbrev pub OneUnitLentWrong : Type 0
+OneUnitLentWrong = One Bool unit.lent_wrong.Kinds.ps unit.lent_wrong.Kinds.r unit.lent_wrong.Reads.Learnt (λ κs r e. r)
+
 abbrev pub OneUnitUnitPacket : Type 0
-OneUnitUnitPacket = One (Answer × List ℕ × List ℕ × List ℕ) unit.Unit.packet.Kinds.ps unit.Unit.packet.Kinds.r unit.Unit.packet.Reads.Learnt (λ κs r e. (r, now (e .1 .0), now (e .1 .1 .0), now (e .1 .1 .1 .0)))
+OneUnitUnitPacket = One (Answer × List ℕ × List ℕ × List ℕ) unit.Unit.packet.Kinds.ps unit.Unit.packet.Kinds.r unit.Unit.packet.Reads.Learnt (λ κs r (_, (seqs, (lists, (out, _)))). (r, now seqs, now lists, now out))
 
 abbrev pub OneUnitWindowCode : Type 0
 OneUnitWindowCode = One ℕ unit.window_code.Kinds.ps unit.window_code.Kinds.r unit.window_code.Reads.Learnt (λ κs r e. r)
@@ -212,36 +250,21 @@ OneLinePutBad = One (ℕ × List ℕ) line.put_bad.Kinds.ps line.put_bad.Kinds.r
 abbrev pub OneLineIsHex : Type 0
 OneLineIsHex = One Bool line.is_hex.Kinds.ps line.is_hex.Kinds.r line.is_hex.Reads.Learnt (λ κs r e. r)
 
-abbrev pub OneLineFigures : Type 0
-OneLineFigures = One Figure line.figures.Kinds.ps line.figures.Kinds.r line.figures.Reads.Learnt (λ κs r e. r)
-
 abbrev pub OneLineNumber : Type 0
 OneLineNumber = One Numeral line.number.Kinds.ps line.number.Kinds.r line.number.Reads.Learnt (λ κs r e. r)
 
-abbrev pub OneLineLineEnd : Type 0
-OneLineLineEnd = One ℕ line.line_end.Kinds.ps line.line_end.Kinds.r line.line_end.Reads.Learnt (λ κs r e. r)
-
-abbrev pub OneLineIsBlank : Type 0
-OneLineIsBlank = One Bool line.is_blank.Kinds.ps line.is_blank.Kinds.r line.is_blank.Reads.Learnt (λ κs r e. r)
-
-abbrev pub OneLineNextWord : Type 0
-OneLineNextWord = One Span line.next_word.Kinds.ps line.next_word.Kinds.r line.next_word.Reads.Learnt (λ κs r e. r)
-
-abbrev pub OneLineBegins : Type 0
-OneLineBegins = One Bool line.begins.Kinds.ps line.begins.Kinds.r line.begins.Reads.Learnt (λ κs r e. r)
-
 abbrev pub OneLineReadLine : Type 0
-OneLineReadLine = One (Line × List ℕ) line.read_line.Kinds.ps line.read_line.Kinds.r line.read_line.Reads.Learnt (λ κs r e. (r, now (e .1 .0)))
+OneLineReadLine = One (Line × List ℕ) line.read_line.Kinds.ps line.read_line.Kinds.r line.read_line.Reads.Learnt (λ κs r (_, (bytes, _)). (r, now bytes))
 
 -- ── keel
 abbrev pub OneKeelKeelPowerOn : Type 0
 OneKeelKeelPowerOn = One (ℕ × List ℕ) keel.keel_power_on.Kinds.ps keel.keel_power_on.Kinds.r keel.keel_power_on.Reads.Learnt (λ κs r e. (r, now (e .0)))
 
 abbrev pub OneKeelKeelPacket : Type 0
-OneKeelKeelPacket = One (ℕ × List ℕ × List ℕ × List ℕ × List ℕ) keel.keel_packet.Kinds.ps keel.keel_packet.Kinds.r keel.keel_packet.Reads.Learnt (λ κs r e. (r, now (e .0), now (e .1 .0), now (e .1 .1 .0), now (e .1 .1 .1 .0)))
+OneKeelKeelPacket = One (ℕ × List ℕ × List ℕ × List ℕ × List ℕ) keel.keel_packet.Kinds.ps keel.keel_packet.Kinds.r keel.keel_packet.Reads.Learnt (λ κs r (state, (seqs, (lists, (out, _)))). (r, now state, now seqs, now lists, now out))
 
 abbrev pub OneKeelKeelStep : Type 0
 OneKeelKeelStep = One (ℕ × List ℕ) keel.keel_step.Kinds.ps keel.keel_step.Kinds.r keel.keel_step.Reads.Learnt (λ κs r e. (r, now (e .0)))
 
 abbrev pub OneKeelKeelCheck : Type 0
-OneKeelKeelCheck = One (ℕ × List ℕ) keel.keel_check.Kinds.ps keel.keel_check.Kinds.r keel.keel_check.Reads.Learnt (λ κs r e. (r, now (e .1 .1 .1 .0)))
+OneKeelKeelCheck = One (ℕ × List ℕ) keel.keel_check.Kinds.ps keel.keel_check.Kinds.r keel.keel_check.Reads.Learnt (λ κs r (_, (_, (_, (report, _)))). (r, now report))

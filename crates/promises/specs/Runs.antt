@@ -1,43 +1,52 @@
 -- A run: steps one after another, none of them an abort, and what is seen of them.
 use Prim.Native.Nat.{ℕ, zero, suc}
 use mathlib.Core.Path.{_≡_}
-use mathlib.Core.Bool.{Bool, true, false}
+use mathlib.Core.Bool.{Bool, true, cond, not}
 use mathlib.Core.List.{List, [], _∷_, _++_}
+use lib.Dec.{eqb}
+use lib.ListN.{getD}
 use Rattle.sequence.specs.Env.{Env}
 use Rattle.runner.specs.declared.Runner.{Runner}
 use Rattle.runner.specs.declared.Sight.{Sight}
 use Rattle.runner.specs.declared.Event.{Event}
-use Rattle.runner.specs.declared.Event.the-variants.{Idle, Enter, Raster, Exp, Loop, Next, Done, Wait, Call, End, Abort}
+use Rattle.runner.specs.declared.Event.the-variants.{Abort}
+use Rattle.runner.specs.Events.{Shown, shows, shownAs}
 use Rattle.runner.specs.Step.{to, stepOf}
+use Rattle.unit.specs.declared.Outcome.{Outcome}
+use Rattle.unit.specs.declared.Outcome.the-variants.{Denied, Saw}
 
--- the event is no abort
+-- ── an event by the paper's number and values for it
+-- runner/specs/Events lists the word, the number and the values of each case; the count of exposures is a value of EXP alone
+abbrev pub isA : ℕ → Event → Bool
+isA number e = eqb (shownAs 0 e .number) number
+
+-- it shows just this, whatever that count is
+abbrev pub ShownAs : Event → Shown → Type 0
+ShownAs e seen = (count : ℕ) → shownAs count e ≡ seen
+
+-- a step of the unit shows it: the step is not denied, and its event does
+abbrev pub Showing : Outcome → Shown → Type 0
+Showing (Denied code) seen = ⊥
+Showing (Saw e) seen = ShownAs e seen
+
+abbrev pub idle : Shown
+idle = shows "IDLE" 0 []
+
+abbrev pub enters : ℕ → Shown
+enters n = shows "ENTER" 1 (n ∷ [])
+
+abbrev pub aborts : ℕ → ℕ → ℕ → Shown
+aborts code n place = shows "ABORT" 10 (code ∷ n ∷ place ∷ [])
+
+-- it is no abort
 abbrev pub quiet : Event → Bool
-quiet Idle = true
-quiet (Enter n) = true
-quiet (Raster id pos list) = true
-quiet (Exp pos) = true
-quiet (Loop place) = true
-quiet Next = true
-quiet Done = true
-quiet (Wait t) = true
-quiet (Call n) = true
-quiet End = true
-quiet (Abort code n place) = false
+quiet e = not (isA 10 e)
 
--- the position of the exposure that an event shows
+-- the position of the exposure that it shows: `EXP no pos`
 abbrev pub positionShown : Event → List ℕ
-positionShown Idle = []
-positionShown (Enter n) = []
-positionShown (Raster id pos list) = []
-positionShown (Exp pos) = pos ∷ []
-positionShown (Loop place) = []
-positionShown Next = []
-positionShown Done = []
-positionShown (Wait t) = []
-positionShown (Call n) = []
-positionShown End = []
-positionShown (Abort code n place) = []
+positionShown e = cond (isA 3 e) (getD (shownAs 0 e .values) 1 0 ∷ []) []
 
+-- ── runs
 -- the positions of the exposures seen, in order
 abbrev pub positionsSeen : List Sight → List ℕ
 positionsSeen [] = []

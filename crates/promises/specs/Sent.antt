@@ -7,7 +7,7 @@ use Rattle.unit.specs.declared.Unit.{Unit as ControlUnit}
 use Rattle.unit.specs.declared.Ledger.{Ledger}
 use Rattle.unit.specs.declared.Answer.{Answer}
 use Rattle.unit.specs.State.{counted, logOf}
-use Rattle.unit.specs.Answer.{answerOf, seqsAfter, listsAfter, outAfter}
+use Rattle.promises.specs.Library.{Library}
 
 -- A packet is sent to a unit at a time, with two tables and an output lent, each of any size.
 pub record Sent : Type 0 where
@@ -19,23 +19,23 @@ pub record Sent : Type 0 where
   pub bytes : List ℕ
 
 -- What `Unit::packet` promises of it: the answer, with its code, its length and the unit after it; the tables and the output after it.
-abbrev pub answer : Sent → Answer
-answer s = answerOf (s .unit) (s .time) (s .seqs) (s .lists) (s .out) (s .bytes)
+abbrev pub answer : Library → Sent → Answer
+answer L s = L .answers (s .unit) (s .time) (s .seqs) (s .lists) (s .out) (s .bytes)
 
-abbrev pub code : Sent → ℕ
-code s = answer s .code
+abbrev pub code : Library → Sent → ℕ
+code L s = answer L s .code
 
-abbrev pub after : Sent → ControlUnit
-after s = answer s .unit
+abbrev pub after : Library → Sent → ControlUnit
+after L s = answer L s .unit
 
-abbrev pub seqsLeft : Sent → List ℕ
-seqsLeft s = seqsAfter (s .unit) (s .seqs) (s .lists) (s .out) (s .bytes)
+abbrev pub seqsLeft : Library → Sent → List ℕ
+seqsLeft L s = L .seqsLeft (s .unit) (s .seqs) (s .lists) (s .out) (s .bytes)
 
-abbrev pub listsLeft : Sent → List ℕ
-listsLeft s = listsAfter (s .unit) (s .seqs) (s .lists) (s .out) (s .bytes)
+abbrev pub listsLeft : Library → Sent → List ℕ
+listsLeft L s = L .listsLeft (s .unit) (s .seqs) (s .lists) (s .out) (s .bytes)
 
-abbrev pub outLeft : Sent → List ℕ
-outLeft s = outAfter (s .unit) (s .time) (s .seqs) (s .lists) (s .out) (s .bytes)
+abbrev pub outLeft : Library → Sent → List ℕ
+outLeft L s = L .outLeft (s .unit) (s .time) (s .seqs) (s .lists) (s .out) (s .bytes)
 
 -- BC1 is byte 1 of the packet, BC2 byte 2, and so on: 0 past its end. So the command number of an empty packet is 0.
 abbrev pub bc1 : Sent → ℕ
@@ -45,14 +45,14 @@ abbrev pub bc2 : Sent → ℕ
 bc2 s = byteAt (s .bytes) 1
 
 -- Both tables are as they were.
-pub record TablesKept (s : Sent) : Type 0 where
-  pub sequences : seqsLeft s ≡ s .seqs
-  pub lineLists : listsLeft s ≡ s .lists
+pub record TablesKept (L : Library) (s : Sent) : Type 0 where
+  pub sequences : seqsLeft L s ≡ s .seqs
+  pub lineLists : listsLeft L s ≡ s .lists
 
 -- Nothing is answered but the code, and the output is as it was.
-pub record NoAnswer (s : Sent) : Type 0 where
-  pub size : answer s .length ≡ 0
-  pub output : outLeft s ≡ s .out
+pub record NoAnswer (L : Library) (s : Sent) : Type 0 where
+  pub size : answer L s .length ≡ 0
+  pub output : outLeft L s ≡ s .out
 
 -- An obeyed packet p counted and logged: "adds 1 to TC_REC_PKTC and sets the log". The failures shown are as they were.
 pub record Logged (p : List ℕ) (was is : Ledger) : Type 0 where

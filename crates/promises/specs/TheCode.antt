@@ -1,34 +1,69 @@
--- The demands, for the code. What the demands name is what the functions answer: each statement is over the contract itself, `Learnt`, as in
--- OneAnswer. So whatever demands 1 to 3 say of the rules, they say of every call.
+-- The demands, for the code. What the demands say of `ours` they say of every call: for each public function that a demand speaks of, whatever a
+-- caller learns of a call from the contract (`Learnt`, as in OneAnswer) is that the function answers what `ours` names, and leaves in each slice
+-- lent for writing what `ours` names. The arguments have the names of the function's parameters, in their order; `seqs′` is the slice `seqs` at exit.
+use Prim.Native.Nat.{ℕ}
 use mathlib.Core.Path.{_≡_}
+use mathlib.Core.List.{List}
 use contract.Lifetimes.{Lfts}
 use denote.Ref.{now}
 use denote.Triple.Clauses.{AtExit}
-use borrow.Fn.Kinds.{Dens, resT, endedOf}
+use borrow.Fn.Kinds.{PK, RK, Out, Dens, resT, endedOf}
+use Rattle.sequence.specs.Env.{envOf}
+use Rattle.runner.proofs as runner
 use Rattle.survey.proofs as survey
 use Rattle.survey.specs.Report.{reportOf}
 use Rattle.unit.proofs as unit
-use Rattle.promises.specs.Subjects.{theCheck, theStep, theAnswer, theSeqs, theLists}
+use Rattle.unit.specs.State.{outOfRange}
+use Rattle.unit.specs.Packet.{kindOf}
+use Rattle.promises.specs.Library.{ours}
+use Rattle.promises.specs.Sent.{Sent, answer, seqsLeft, listsLeft, outLeft}
 
--- A step of the unit, called with a unit and two tables, answers the step that demand 3 speaks of.
-abbrev pub StepIs : Type 0
-StepIs =
-    (κs : Lfts 2) (a : Dens κs unit.Unit.step.Kinds.ps) (r : resT unit.Unit.step.Kinds.r κs .Denot) (e : AtExit (endedOf 2 unit.Unit.step.Kinds.ps unit.Unit.step.Kinds.r) κs)
-    → unit.Unit.step.Reads.Learnt κs a r e
-    → r ≡ theStep (a .0) (now (a .1 .0)) (now (a .1 .1 .0))
+-- A function with parameters ps and a result of kind k is called with any arguments. What its contract allows of the result and of the parameters at
+-- exit has the property.
+abbrev pub Called : {n : ℕ} (ps : List (PK n)) (k : RK n) → Out n ps k
+    → ((κs : Lfts n) → Dens κs ps → resT k κs .Denot → AtExit (endedOf n ps k) κs → Type 0) → Type 0
+Called {n} ps k allows Has = (κs : Lfts n) (args : Dens κs ps) (result : resT k κs .Denot) (exit : AtExit (endedOf n ps k) κs) → allows κs args result exit → Has κs args result exit
 
--- A packet, called with a unit, two tables, an output, a time and its bytes, answers and leaves in both tables what demand 3 speaks of.
+-- `Unit::power_on`
+abbrev pub PowerOnIs : Type 0
+PowerOnIs = Called unit.Unit.power_on.Kinds.ps unit.Unit.power_on.Kinds.r unit.Unit.power_on.Reads.Learnt
+    (λ κs args result exit. result ≡ ours .powersOn)
+
+-- `Unit::packet`: its answer, and what it leaves in both tables and in the output.
 abbrev pub PacketIs : Type 0
-PacketIs =
-    (κs : Lfts 4) (a : Dens κs unit.Unit.packet.Kinds.ps) (r : resT unit.Unit.packet.Kinds.r κs .Denot) (e : AtExit (endedOf 4 unit.Unit.packet.Kinds.ps unit.Unit.packet.Kinds.r) κs)
-    → unit.Unit.packet.Reads.Learnt κs a r e
-    → (r ≡ theAnswer (a .0) (a .1 .1 .1 .1 .0) (now (a .1 .0)) (now (a .1 .1 .0)) (now (a .1 .1 .1 .0)) (now (a .1 .1 .1 .1 .1 .0)))
-    × (now (e .1 .0) ≡ theSeqs (a .0) (now (a .1 .0)) (now (a .1 .1 .0)) (now (a .1 .1 .1 .0)) (now (a .1 .1 .1 .1 .1 .0)))
-    × (now (e .1 .1 .0) ≡ theLists (a .0) (now (a .1 .0)) (now (a .1 .1 .0)) (now (a .1 .1 .1 .0)) (now (a .1 .1 .1 .1 .1 .0)))
+PacketIs = Called unit.Unit.packet.Kinds.ps unit.Unit.packet.Kinds.r unit.Unit.packet.Reads.Learnt
+    (λ κs (self, (seqs, (lists, (out, (time, (pkt, _)))))) result (_, (seqs′, (lists′, (out′, _)))).
+    let s : Sent = record { unit = self; time = time; seqs = now seqs; lists = now lists; out = now out; bytes = now pkt } in
+    (result ≡ answer ours s) × (now seqs′ ≡ seqsLeft ours s) × (now lists′ ≡ listsLeft ours s) × (now out′ ≡ outLeft ours s))
 
--- The table check, called with two tables and a number, reports what the check tells that demand 3 speaks of.
+-- `Unit::step`, and `Runner::step` in it
+abbrev pub StepIs : Type 0
+StepIs = Called unit.Unit.step.Kinds.ps unit.Unit.step.Kinds.r unit.Unit.step.Reads.Learnt
+    (λ κs (self, (seqs, (lists, _))) result exit. result ≡ ours .steps self (now seqs) (now lists))
+
+abbrev pub RunIs : Type 0
+RunIs = Called runner.Runner.step.Kinds.ps runner.Runner.step.Kinds.r runner.Runner.step.Reads.Learnt
+    (λ κs (self, (seqs, (lists, _))) result exit. result ≡ ours .runs (envOf (now lists)) (now seqs) self)
+
+-- `check`: the report of what the check tells.
 abbrev pub CheckIs : Type 0
-CheckIs =
-    (κs : Lfts 2) (a : Dens κs survey.check.Kinds.ps) (r : resT survey.check.Kinds.r κs .Denot) (e : AtExit (endedOf 2 survey.check.Kinds.ps survey.check.Kinds.r) κs)
-    → survey.check.Reads.Learnt κs a r e
-    → r ≡ reportOf (theCheck (now (a .0)) (now (a .1 .0)) (a .1 .1 .0))
+CheckIs = Called survey.check.Kinds.ps survey.check.Kinds.r survey.check.Reads.Learnt
+    (λ κs (seqs, (lists, (number, _))) result exit. result ≡ reportOf (ours .checks (now seqs) (now lists) number))
+
+-- `window_code` and `window`
+abbrev pub WindowCodeIs : Type 0
+WindowCodeIs = Called unit.window_code.Kinds.ps unit.window_code.Kinds.r unit.window_code.Reads.Learnt
+    (λ κs (seqs, (lists, (address, (len, _)))) result exit. result ≡ ours .windowCode (now seqs) (now lists) address len)
+
+abbrev pub WindowIs : Type 0
+WindowIs = Called unit.window.Kinds.ps unit.window.Kinds.r unit.window.Reads.Learnt
+    (λ κs (seqs, (lists, (address, (len, _)))) result exit. now result ≡ ours .windowPart (now seqs) (now lists) address len)
+
+-- Two that demand 2 speaks of by their definitions: whether a state is out of range, and the command that BC1 names.
+abbrev pub OutOfRangeIs : Type 0
+OutOfRangeIs = Called unit.Unit.out_of_range.Kinds.ps unit.Unit.out_of_range.Kinds.r unit.Unit.out_of_range.Reads.Learnt
+    (λ κs (self, _) result exit. result ≡ outOfRange self)
+
+abbrev pub KindIs : Type 0
+KindIs = Called unit.kind_of.Kinds.ps unit.kind_of.Kinds.r unit.kind_of.Reads.Learnt
+    (λ κs (number, _) result exit. result ≡ kindOf number)

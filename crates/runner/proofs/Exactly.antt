@@ -1,10 +1,10 @@
 -- A command is refused exactly when a row of its table refuses it, with the code of the first row that holds: one law, and each
 -- command's table under it. Assumes nothing.
-use Prim.Native.Nat.{ℕ, _≤_, _<_}
+use Prim.Native.Nat.{ℕ, _<_}
 use native.Mathlib.Omega.{arith}
-use mathlib.Core.Path.{_≡_, refl, sym, ap, _∙_, subst}
+use mathlib.Core.Path.{_≡_, refl, sym, ap, _∙_}
 use mathlib.Core.Bool.{Bool, true, false, cond}
-use mathlib.Core.List.{List, [], _∷_}
+use mathlib.Core.List.{List}
 use mathlib.Core.Logic.{_↔_}
 use lib.Dec.{T, eqb}
 use borrow.Author.Tests.{eqb-true, ne-eqb}
@@ -16,7 +16,7 @@ use Rattle.runner.specs.declared.Opened.{Opened}
 use Rattle.runner.specs.declared.Opened.the-variants.{Shut, Open}
 use Rattle.runner.specs.declared.Act.{Act}
 use Rattle.runner.specs.declared.Act.the-variants.{Refused, Opens, Exposes, Loops, Calls, Ends}
-use Rattle.runner.specs.Judge.{pathRows, rasterRows, runRows, exposeRows, loopRows, closeRows, unless, exposesIn, judged}
+use Rattle.runner.specs.Judge.{pathRows, rasterRows, runRows, exposeRows, loopRows, closeRows, unless, judged}
 use Rattle.memory.specs.declared.Place.{Place}
 
 -- an act is done exactly when no row holds, and refused with a code exactly when the first row that holds bears it
@@ -54,20 +54,8 @@ module _ (rs : List Row) (a : Act) (plain : Plain a) where
             );
       }
 
-plain-opens : Plain Opens
-plain-opens c e = let z : _≡_ {A = ℕ} 0 1 = cc in omega arith
-
-plain-exposes : (r : Place) → Plain (Exposes r)
-plain-exposes r c e = let z : _≡_ {A = ℕ} 0 1 = cc in omega arith
-
-plain-loops : (t : ℕ) → Plain (Loops t)
-plain-loops t c e = let z : _≡_ {A = ℕ} 0 1 = cc in omega arith
-
-plain-calls : (n : ℕ) → Plain (Calls n)
-plain-calls n c e = let z : _≡_ {A = ℕ} 0 1 = cc in omega arith
-
-plain-ends : Plain Ends
-plain-ends c e = let z : _≡_ {A = ℕ} 0 1 = cc in omega arith
+clash : _≡_ {A = ℕ} 0 1 → ⊥
+clash z = omega arith
 
 loop-coded : (text : List ℕ) (p t : ℕ) (o : Opened) → T (coded (loopRows text p t o))
 unfolding loopRows
@@ -77,11 +65,11 @@ loop-coded text p t (Open r c) = tt
 module _ (E : Env) (text : List ℕ) (p : ℕ) where
   pub run-raster-exactly : (o : Opened) → Exactly (runRows E text p o) (judged E text p o RunRaster) Opens
   unfolding judged runRows rasterRows pathRows
-  run-raster-exactly o = exactly (runRows E text p o) Opens plain-opens tt
+  run-raster-exactly o = exactly (runRows E text p o) Opens (λ c e. clash (cc)) tt
 
   pub expose-exactly : (time : ℕ) (r : Place) (c : ℕ) → Exactly (exposeRows text time (Open r c)) (judged E text p (Open r c) (Expose time)) (Exposes r)
   unfolding judged exposeRows
-  expose-exactly time r c = exactly (exposeRows text time (Open r c)) (Exposes r) (plain-exposes r) tt
+  expose-exactly time r c = exactly (exposeRows text time (Open r c)) (Exposes r) (λ k e. clash (cc)) tt
 
   pub expose-shut : (time : ℕ) → judged E text p Shut (Expose time) ≡ Refused 3
   unfolding judged exposeRows
@@ -89,12 +77,12 @@ module _ (E : Env) (text : List ℕ) (p : ℕ) where
 
   pub loop-back-exactly : (t : ℕ) (o : Opened) → Exactly (loopRows text p t o) (judged E text p o (LoopBack t)) (Loops t)
   unfolding judged
-  loop-back-exactly t o = exactly (loopRows text p t o) (Loops t) (plain-loops t) (loop-coded text p t o)
+  loop-back-exactly t o = exactly (loopRows text p t o) (Loops t) (λ c e. clash (cc)) (loop-coded text p t o)
 
   pub call-exactly : (n : ℕ) (o : Opened) → Exactly (closeRows text p o) (judged E text p o (CallSequence n)) (Calls n)
   unfolding judged closeRows
-  call-exactly n o = exactly (closeRows text p o) (Calls n) (plain-calls n) tt
+  call-exactly n o = exactly (closeRows text p o) (Calls n) (λ c e. clash (cc)) tt
 
   pub terminate-exactly : (o : Opened) → Exactly (closeRows text p o) (judged E text p o Terminate) Ends
   unfolding judged closeRows
-  terminate-exactly o = exactly (closeRows text p o) Ends plain-ends tt
+  terminate-exactly o = exactly (closeRows text p o) Ends (λ c e. clash (cc)) tt

@@ -2,14 +2,14 @@
 -- The step acts on this judgement and the table check walks the text with it.
 use Prim.Native.Nat.{ℕ, _+_}
 use mathlib.Core.Bool.{Bool, true, false, cond, not}
-use mathlib.Core.List.{List, [], _∷_}
+use mathlib.Core.List.{List, [], _∷_, _++_}
 use lib.Dec.{ltb, leb, eqb}
 use Rattle.octets.specs.Rows.{Row, row, firstCode}
 use Rattle.memory.specs.declared.Place.{Place}
 use Rattle.sequence.specs.declared.Command.{Command}
 use Rattle.sequence.specs.declared.Command.the-variants.{RunRaster, Expose, LoopBack, CallSequence, Terminate, Delay, Nothing, Unknown, Unfit}
 use Rattle.sequence.specs.declared.RasterWords.{RasterWords}
-use Rattle.sequence.specs.Text.{limit, sizeAt, commandAt}
+use Rattle.sequence.specs.Text.{limit, sizeAt, commandAt, isRunRaster}
 use Rattle.sequence.specs.Starts.{targetGood}
 use Rattle.sequence.specs.Raster.{rasterAt, flagsGood, reachOf}
 use Rattle.sequence.specs.LineList.{isGood}
@@ -30,17 +30,6 @@ abbrev pub openElsewhere : ℕ → Opened → Bool
 openElsewhere p Shut = false
 openElsewhere p (Open r c) = not (eqb (r .0) p)
 
-abbrev pub isRunRaster : Command → Bool
-isRunRaster RunRaster = true
-isRunRaster (Expose t) = false
-isRunRaster (LoopBack t) = false
-isRunRaster (CallSequence n) = false
-isRunRaster Terminate = false
-isRunRaster (Delay t) = false
-isRunRaster Nothing = false
-isRunRaster Unknown = false
-isRunRaster Unfit = false
-
 -- how many exposures fill a set: the raster's, and never more than 8
 abbrev pub setOf : RasterWords → ℕ
 setOf raster = cond (leb (raster .exposures) 8) (raster .exposures) 8
@@ -50,29 +39,36 @@ abbrev pub full : List ℕ → Place → ℕ → Bool
 full text r c = leb (setOf (rasterAt text (r .0))) c
 
 -- ── the refusals of each command, in order
--- "initial or step above 2400, or initial + (loops - 1) x step above 2400, 14; ASRC not 0, or more than one of science bits 2-5 set, 3"
-unfoldable pub pathRows : RasterWords → List Row
-pathRows raster =
-    row 14 (ltb 2400 (raster .initial))
-    ∷ row 14 (ltb 2400 (raster .step))
-    ∷ row 14 (ltb 2400 (reachOf raster 0))
-    ∷ row 3 (not (eqb (raster .asrc) 0))
-    ∷ row 3 (not (flagsGood (raster .science)))
+-- "loops or repeats 0, 11; exposures not 1-8, 5"
+abbrev pub countRows : RasterWords → List Row
+countRows raster =
+    row 11 (eqb (raster .loops) 0)
+    ∷ row 11 (eqb (raster .repeats) 0)
+    ∷ row 5 (eqb (raster .exposures) 0)
+    ∷ row 5 (ltb 8 (raster .exposures))
     ∷ []
 
 abbrev pub listBad : Env → ℕ → Bool
 listBad E n = not (isGood (E .lists n))
 
--- "loops or repeats 0, 11; exposures not 1-8, 5; line list above 47, 6; line list bad 7"
+-- "line list above 47, 6; line list bad 7"
+abbrev pub listRows : Env → RasterWords → List Row
+listRows E raster = row 6 (ltb 47 (raster .list)) ∷ row 7 (listBad E (raster .list)) ∷ []
+
+-- "initial or step above 2400, or initial + (loops - 1) x step above 2400, 14"
+unfoldable pub pathRows : RasterWords → List Row
+pathRows raster =
+    row 14 (ltb 2400 (raster .initial))
+    ∷ row 14 (ltb 2400 (raster .step))
+    ∷ row 14 (ltb 2400 (reachOf raster 0))
+    ∷ []
+
+-- "ASRC not 0, or more than one of science bits 2-5 set, 3"
+abbrev pub flagRows : RasterWords → List Row
+flagRows raster = row 3 (not (eqb (raster .asrc) 0)) ∷ row 3 (not (flagsGood (raster .science))) ∷ []
+
 unfoldable pub rasterRows : Env → RasterWords → List Row
-rasterRows E raster =
-    row 11 (eqb (raster .loops) 0)
-    ∷ row 11 (eqb (raster .repeats) 0)
-    ∷ row 5 (eqb (raster .exposures) 0)
-    ∷ row 5 (ltb 8 (raster .exposures))
-    ∷ row 6 (ltb 47 (raster .list))
-    ∷ row 7 (listBad E (raster .list))
-    ∷ pathRows raster
+rasterRows E raster = countRows raster ++ (listRows E raster ++ (pathRows raster ++ flagRows raster))
 
 -- "Run raster: raster already open 3 (a repeat's jump back isn't that ..)"
 unfoldable pub runRows : Env → List ℕ → ℕ → Opened → List Row

@@ -1,17 +1,20 @@
 -- One interpreter step.
-use Prim.Native.Nat.{ℕ, _+_, _-_, _<_}
+use Prim.Native.Nat.{ℕ, _+_, _-_, _≤_}
+use mathlib.Core.Path.{_≡_}
 use mathlib.Core.Bool.{Bool, true, false, cond, _&&_}
 use mathlib.Core.List.{List}
-use lib.Dec.{ltb, leb, eqb}
-use Rattle.octets.specs.Bytes.{byteAt, wordAt}
+use lib.Dec.{ltb, eqb}
+use lib.ListN.{length}
+use Rattle.octets.specs.Bytes.{wordAt}
 use Rattle.memory.specs.declared.Place.{Place}
 use Rattle.memory.specs.declared.Placed.{Placed}
 use Rattle.memory.specs.declared.Placed.the-variants.{At, Outside}
 use Rattle.memory.specs.Memory.{placeOf}
+use Rattle.sequence.specs.declared.Command.{Command}
 use Rattle.sequence.specs.declared.Header.{Header}
 use Rattle.sequence.specs.declared.Header.the-variants.{Repeats, Fault}
 use Rattle.sequence.specs.declared.RasterWords.{RasterWords}
-use Rattle.sequence.specs.Text.{sizeAt, headerOf}
+use Rattle.sequence.specs.Text.{sizeAt, commandAt, headerOf}
 use Rattle.sequence.specs.Raster.{rasterAt, startOf}
 use Rattle.sequence.specs.Env.{Env, textOf}
 use Rattle.runner.specs.declared.Runner.{Runner}
@@ -117,16 +120,6 @@ called last n s =
 unfoldable pub ended : Runner → Stepped
 ended s = cond (ltb 1 (s .rounds)) (another s) (to End (withRunning false s))
 
--- an exposure is made with fewer than 255 in the set: a set never holds more than 8
-abbrev pub Room : ℕ → Act → Type 0
-Room count (Refused code) = Unit {0}
-Room count Opens = Unit {0}
-Room count (Exposes r) = count < 255
-Room count (Loops t) = Unit {0}
-Room count Waits = Unit {0}
-Room count (Calls n) = Unit {0}
-Room count Ends = Unit {0}
-
 -- what the runner does with a judgement; last: the last sequence's number
 unfoldable pub act : ℕ → List ℕ → Runner → Act → Stepped
 act last text s (Refused code) = aborted code (s .place) s
@@ -143,3 +136,8 @@ stepIn E text s = cond (s .entering) (entered text s) (act (E .last) text s (jud
 
 unfoldable pub stepOf : Env → List ℕ → Runner → Stepped
 stepOf E seqs s = cond (s .running) (stepIn E (textOf E seqs (s .sequence)) s) (to Idle s)
+
+-- a command stands at the runner's place, in an entry's text
+pub record Stands (text : List ℕ) (s : Runner) (command : Command) : Type 0 where
+  pub here : command ≡ commandAt text (s .place)
+  pub short : length text ≤ 128

@@ -1,14 +1,13 @@
 // The interpreter: what the command at a place comes to, and what one step does with it.
 ghost use mathlib.Core.Path.{_≡_};
-ghost use mathlib.Core.Bool.{cond};
 ghost use Prim.Native.Nat.{_+_, _*_, _-_, _<_, _≤_};
 ghost use lib.ListN.{length};
 ghost use Rattle.octets.specs.Rows.{firstCode};
-ghost use Rattle.sequence.specs.Text.{sizeAt};
 ghost use Rattle.sequence.specs.Raster.{rasterAt};
 ghost use Rattle.sequence.specs.Env.{envOf};
-ghost use Rattle.runner.specs.Judge.{isOpen, openElsewhere, isRunRaster, setOf, full, listBad, pathRows, rasterRows, runRows, exposeRows, loopRows, closeRows, unless, exposesIn, judge};
-ghost use Rattle.runner.specs.Step.{openOf, aborted, entered, begun, advances, exposedAt, exposed, looped, delayed, another, called, ended, Room, act, stepIn, stepOf};
+ghost use Rattle.runner.specs.Judge.{isOpen, openElsewhere, setOf, full, listBad, countRows, listRows, pathRows, flagRows, rasterRows, runRows, exposeRows, loopRows, closeRows, unless, exposesIn, judge};
+ghost use Rattle.runner.specs.Step.{to, openOf, aborted, entered, advances, exposedAt, another, act, stepIn, stepOf, Stands};
+ghost use Rattle.runner.specs.With.{withPlace};
 use memory::Place;
 use memory::Placed;
 use sequence::Command;
@@ -92,23 +91,6 @@ fn unless(code: u8, judgement: Act) -> Act
     }
 }
 
-// Whether a command is a run raster.
-fn is_run_raster(command: Command) -> bool
-    ensures { λ r. ⌜ r ≡ isRunRaster command ⌝ }
-{
-    match command {
-        Command::RunRaster => true,
-        Command::Expose(_) => false,
-        Command::LoopBack(_) => false,
-        Command::CallSequence(_) => false,
-        Command::Terminate => false,
-        Command::Delay(_) => false,
-        Command::Nothing => false,
-        Command::Unknown => false,
-        Command::Unfit => false,
-    }
-}
-
 impl Opened {
     // Whether a raster is open.
     fn is_open(self) -> bool
@@ -129,6 +111,16 @@ impl Opened {
             Opened::Open(r, _) => r.number() != at.number(),
         }
     }
+
+    // An exposure in the open raster.
+    fn exposes(self) -> Act
+        ensures { λ r. ⌜ r ≡ exposesIn self ⌝ }
+    {
+        match self {
+            Opened::Shut => Act::Refused(3),
+            Opened::Open(raster, _) => Act::Exposes(raster),
+        }
+    }
 }
 
 // How many exposures fill a set of the raster at a place.
@@ -136,7 +128,11 @@ fn set_of(text: &[u8], raster: Place) -> u8
     ensures { λ r. ⌜ r ≡ setOf (rasterAt (now (text .entry)) (raster .0)) ⌝ }
 {
     let exposures = sequence::exposures_at(text, raster);
-    if exposures <= 8 { exposures } else { 8 }
+    if exposures <= Runner::FULL_SET {
+        exposures
+    } else {
+        Runner::FULL_SET
+    }
 }
 
 // Whether the set of the raster at a place is full.
@@ -173,9 +169,9 @@ fn list_bad(lists: &[u8], n: u8) -> bool
     }
 }
 
-// The code with which a raster's words are refused, or 0.
-fn raster_fault(raster: RasterWords, lists: &[u8]) -> u8
-    ensures { λ r. ⌜ r ≡ firstCode (rasterRows (envOf (now (lists .entry))) raster) ⌝ }
+// The code with which a raster's loops, repeats and exposures are refused, or 0.
+fn count_fault(raster: RasterWords) -> u8
+    ensures { λ r. ⌜ r ≡ firstCode (countRows raster) ⌝ }
 {
     octets::refuse(
         raster.loops == 0,
@@ -186,21 +182,24 @@ fn raster_fault(raster: RasterWords, lists: &[u8]) -> u8
             octets::refuse(
                 raster.exposures == 0,
                 5,
-                octets::refuse(
-                    8 < raster.exposures,
-                    5,
-                    octets::refuse(
-                        47 < raster.list,
-                        6,
-                        octets::refuse(list_bad(lists, raster.list), 7, path_fault(raster)),
-                    ),
-                ),
+                octets::refuse(Runner::FULL_SET < raster.exposures, 5, 0),
             ),
         ),
     )
 }
 
-// The code with which a raster's path and flags are refused, or 0.
+// The code with which a raster's line list is refused, or 0.
+fn list_fault(raster: RasterWords, lists: &[u8]) -> u8
+    ensures { λ r. ⌜ r ≡ firstCode (listRows (envOf (now (lists .entry))) raster) ⌝ }
+{
+    octets::refuse(
+        memory::LAST_LINE_LIST < raster.list,
+        6,
+        octets::refuse(list_bad(lists, raster.list), 7, 0),
+    )
+}
+
+// The code with which a raster's path is refused, or 0.
 fn path_fault(raster: RasterWords) -> u8
     ensures { λ r. ⌜ r ≡ firstCode (pathRows raster) ⌝ }
 {
@@ -213,12 +212,37 @@ fn path_fault(raster: RasterWords) -> u8
             octets::refuse(
                 (Runner::END_STOP as u32) < reach(raster.initial, raster.loops, raster.step),
                 14,
-                octets::refuse(
-                    raster.asrc != 0,
-                    3,
-                    octets::refuse(!sequence::flags_good(raster.science), 3, 0),
-                ),
+                0,
             ),
+        ),
+    )
+}
+
+// The code with which a raster's flags are refused, or 0.
+fn flag_fault(raster: RasterWords) -> u8
+    ensures { λ r. ⌜ r ≡ firstCode (flagRows raster) ⌝ }
+{
+    octets::refuse(
+        raster.asrc != 0,
+        3,
+        octets::refuse(!sequence::flags_good(raster.science), 3, 0),
+    )
+}
+
+// The code with which a raster's words are refused, or 0: counts, line list, path, flags.
+fn raster_fault(raster: RasterWords, lists: &[u8]) -> u8
+    ensures { λ r. ⌜ r ≡ firstCode (rasterRows (envOf (now (lists .entry))) raster) ⌝ }
+{
+    let counts = count_fault(raster);
+    let list = list_fault(raster, lists);
+    let path = path_fault(raster);
+    octets::refuse(
+        counts != 0,
+        counts,
+        octets::refuse(
+            list != 0,
+            list,
+            octets::refuse(path != 0, path, flag_fault(raster)),
         ),
     )
 }
@@ -231,58 +255,38 @@ fn run_fault(text: &[u8], lists: &[u8], at: Place, held: Opened) -> u8
     octets::refuse(held.elsewhere(at), 3, raster_fault(raster, lists))
 }
 
-// The code with which an expose is refused in the raster at a place, or 0.
-fn expose_fault(text: &[u8], time: u16, raster: Place, count: u8) -> u8
-    ensures { λ r. ⌜ r ≡ firstCode (exposeRows (now (text .entry)) time (Opened.Open raster count)) ⌝ }
-{
-    octets::refuse(
-        !is_run_raster(sequence::command_at(text, raster)),
-        3,
-        octets::refuse(
-            time == 0,
-            3,
-            octets::refuse(full(text, raster, count), 3, 0),
-        ),
-    )
-}
-
-// The code with which a loop back is refused in the raster at a place, or 0.
-fn loop_fault(text: &[u8], at: Place, target: u8, raster: Place, count: u8) -> u8
-    ensures { λ r. ⌜ r ≡ firstCode (loopRows (now (text .entry)) (at .0) target (Opened.Open raster count)) ⌝ }
-{
-    octets::refuse(
-        !is_run_raster(sequence::command_at(text, raster)),
-        3,
-        octets::refuse(
-            !full(text, raster, count),
-            3,
-            octets::refuse(!sequence::target_good(text, raster, at, target), 3, 0),
-        ),
-    )
-}
-
-// What an expose comes to.
-fn judge_expose(text: &[u8], time: u16, held: Opened) -> Act
-    ensures { λ r. ⌜ r ≡ unless (firstCode (exposeRows (now (text .entry)) time held)) (exposesIn held) ⌝ }
+// The code with which an expose is refused, or 0.
+fn expose_fault(text: &[u8], time: u16, held: Opened) -> u8
+    ensures { λ r. ⌜ r ≡ firstCode (exposeRows (now (text .entry)) time held) ⌝ }
 {
     match held {
-        Opened::Shut => Act::Refused(3),
-        Opened::Open(raster, count) => unless(
-            expose_fault(text, time, raster, count),
-            Act::Exposes(raster),
+        Opened::Shut => 3,
+        Opened::Open(raster, count) => octets::refuse(
+            !sequence::raster_stands(text, raster),
+            3,
+            octets::refuse(
+                time == 0,
+                3,
+                octets::refuse(full(text, raster, count), 3, 0),
+            ),
         ),
     }
 }
 
-// What a loop back comes to.
-fn judge_loop(text: &[u8], at: Place, target: u8, held: Opened) -> Act
-    ensures { λ r. ⌜ r ≡ unless (firstCode (loopRows (now (text .entry)) (at .0) target held)) (Act.Loops target) ⌝ }
+// The code with which a loop back is refused, or 0.
+fn loop_fault(text: &[u8], at: Place, target: u8, held: Opened) -> u8
+    ensures { λ r. ⌜ r ≡ firstCode (loopRows (now (text .entry)) (at .0) target held) ⌝ }
 {
     match held {
-        Opened::Shut => Act::Refused(3),
-        Opened::Open(raster, count) => unless(
-            loop_fault(text, at, target, raster, count),
-            Act::Loops(target),
+        Opened::Shut => 3,
+        Opened::Open(raster, count) => octets::refuse(
+            !sequence::raster_stands(text, raster),
+            3,
+            octets::refuse(
+                !full(text, raster, count),
+                3,
+                octets::refuse(!sequence::target_good(text, raster, at, target), 3, 0),
+            ),
         ),
     }
 }
@@ -309,28 +313,21 @@ pub fn judge(text: &[u8], lists: &[u8], at: Place, held: Opened) -> Act
     let command = sequence::command_at(text, at);
     match command {
         Command::RunRaster => unless(run_fault(text, lists, at, held), Act::Opens),
-        Command::Expose(time) => judge_expose(text, time, held),
-        Command::LoopBack(target) => judge_loop(text, at, target, held),
+        Command::Expose(time) => unless(expose_fault(text, time, held), held.exposes()),
+        Command::LoopBack(target) => unless(loop_fault(text, at, target, held), Act::Loops(target)),
         Command::CallSequence(n) => unless(close_fault(text, at, held), Act::Calls(n)),
         Command::Terminate => unless(close_fault(text, at, held), Act::Ends),
         Command::Delay(_) => Act::Waits,
-        Command::Nothing => Act::Refused(3),
-        Command::Unknown => Act::Refused(3),
-        Command::Unfit => Act::Refused(3),
+        Command::Nothing | Command::Unknown | Command::Unfit => Act::Refused(3),
     }
-}
-
-// The place past the command at a place, in an entry's text.
-fn next_place(text: &[u8], at: Place) -> u8
-    requires { ⌜ length (now text) ≤ 128 ⌝ }
-    ensures { λ r. ⌜ r ≡ at .0 + sizeAt (now (text .entry)) (at .0) ⌝ }
-{
-    sequence::past(text, at) as u8
 }
 
 impl Runner {
     // The mirror's end stop.
     pub const END_STOP: u16 = 2400;
+
+    // The most exposures of a set.
+    pub const FULL_SET: u8 = 8;
 
     // No sequence, and no open raster.
     pub const NONE: u8 = 255;
@@ -346,63 +343,67 @@ impl Runner {
     }
 
     // Stopped with a code at a place, and nothing else changed.
-    fn aborted(mut self, code: u8, place: u8) -> Stepped
+    fn aborted(self, code: u8, place: u8) -> Stepped
         ensures { λ r. ⌜ r ≡ aborted code place self ⌝ }
     {
-        let event = Event::Abort(code, self.sequence, place);
-        self.place = place;
-        self.running = false;
         Stepped {
-            event,
-            runner: self,
+            event: Event::Abort(code, self.sequence, place),
+            runner: Runner {
+                place,
+                running: false,
+                ..self
+            },
         }
     }
 
     // The sequence entered, or why not.
-    fn enter(mut self, text: &[u8]) -> Stepped
+    fn enter(self, text: &[u8]) -> Stepped
         ensures { λ r. ⌜ r ≡ entered (now (text .entry)) self ⌝ }
     {
         match sequence::header_of(text) {
             Header::Fault { code, place } => self.aborted(code, place),
-            Header::Repeats(rounds) => {
-                self.entering = false;
-                self.place = 4;
-                self.rounds = rounds;
-                Stepped {
-                    event: Event::Enter(self.sequence),
-                    runner: self,
-                }
-            }
+            Header::Repeats(rounds) => Stepped {
+                event: Event::Enter(self.sequence),
+                runner: Runner {
+                    place: 4,
+                    entering: false,
+                    rounds,
+                    ..self
+                },
+            },
         }
     }
 
-    // The raster repeats left when a run raster begins: a repeat's jump back doesn't reload them.
-    fn repeats_left(self, raster: RasterWords) -> u16
-        ensures { λ r. ⌜ r ≡ cond (isOpen (openOf self)) (self .repeats) (raster .repeats) ⌝ }
+    // The run raster at the place begun: its first repeat, or the next, which doesn't reload the repeats.
+    fn run_raster(self, text: &[u8], lists: &[u8], at: Place) -> Stepped
+        requires { ⌜ (at .0 ≡ self .place) × Stands (now text) self Command.RunRaster ⌝ }
+        ensures { λ r. ⌜ r ≡ act 127 (now (text .entry)) self (unless (firstCode (runRows (envOf (now (lists .entry))) (now (text .entry)) (at .0) (openOf self))) Act.Opens) ⌝ }
     {
-        if self.opened().is_open() {
-            self.repeats
-        } else {
-            raster.repeats
+        let held = self.opened();
+        let code = run_fault(text, lists, at, held);
+        if code != 0 {
+            return self.aborted(code, self.place);
         }
-    }
-
-    // The run raster at a place begun: its first repeat, or the next.
-    fn run_raster(mut self, text: &[u8], at: Place) -> Stepped
-        requires { ⌜ (at .0 ≡ self .place) × (length (now text) ≤ 128) ⌝ }
-        ensures { λ r. ⌜ r ≡ begun (now (text .entry)) self ⌝ }
-    {
-        let raster = sequence::raster_at(text, at);
-        let repeats = self.repeats_left(raster);
-        self.raster = at.number();
-        self.place = next_place(text, at);
-        self.count = 0;
-        self.passes = raster.loops;
-        self.repeats = repeats;
-        self.mirror = raster.initial;
+        let initial = sequence::initial_at(text, at);
         Stepped {
-            event: Event::Raster(raster.id, raster.initial, raster.list),
-            runner: self,
+            event: Event::Raster(
+                sequence::id_at(text, at),
+                initial,
+                sequence::list_at(text, at),
+            ),
+            runner: Runner {
+                place: self.place + 23,
+                raster: self.place,
+                count: 0,
+                passes: sequence::loops_at(text, at),
+                repeats: if held.is_open() {
+                    self.repeats
+                } else {
+                    sequence::repeats_at(text, at)
+                },
+                mirror: initial,
+                ..self
+            },
         }
     }
 
@@ -416,139 +417,156 @@ impl Runner {
         self.count as u16 + 1 == set_of(text, raster) as u16
     }
 
-    // The runner past an exposure, at the next place, with the mirror where it stands then.
-    fn past_exposure(mut self, next: u8, mirror: u16) -> Stepped
-        requires { ⌜ self .count < 255 ⌝ }
-        ensures { λ r. ⌜ r ≡ exposedAt next mirror self ⌝ }
+    // One exposure more, with the mirror where it stands after it.
+    fn exposed(self, mirror: u16) -> Stepped
+        requires { ⌜ (self .place + 3 < 256) × (self .count < 255) ⌝ }
+        ensures { λ r. ⌜ r ≡ exposedAt (self .place + 3) mirror self ⌝ }
     {
-        let event = Event::Exp(self.mirror);
-        self.place = next;
-        self.count = self.count + 1;
-        self.mirror = mirror;
         Stepped {
-            event,
-            runner: self,
+            event: Event::Exp(self.mirror),
+            runner: Runner {
+                place: self.place + 3,
+                count: self.count + 1,
+                mirror,
+                ..self
+            },
         }
     }
 
-    // The exposure at a place made, in the raster at another; where it fills the set and passes remain the mirror advances after it.
-    fn expose(self, text: &[u8], at: Place, raster: Place) -> Stepped
-        requires { ⌜ (at .0 ≡ self .place) × (length (now text) ≤ 128) × (self .count < 255) ⌝ }
-        ensures { λ r. ⌜ r ≡ exposed (now (text .entry)) raster self ⌝ }
+    // An exposure in the open raster; where it fills the set and passes remain the mirror advances after it.
+    fn expose(self, text: &[u8], time: u16) -> Stepped
+        requires { ⌜ Stands (now text) self (Command.Expose time) ⌝ }
+        ensures { λ r. ⌜ r ≡ act 127 (now (text .entry)) self (unless (firstCode (exposeRows (now (text .entry)) time (openOf self))) (exposesIn (openOf self))) ⌝ }
     {
-        let next = next_place(text, at);
+        let held = self.opened();
+        let Opened::Open(raster, _) = held else {
+            return self.aborted(3, self.place);
+        };
+        let code = expose_fault(text, time, held);
+        if code != 0 {
+            return self.aborted(3, self.place);
+        }
         if !self.advances(text, raster) {
-            return self.past_exposure(next, self.mirror);
+            return self.exposed(self.mirror);
         }
         let mirror = advanced(self.mirror, sequence::step_at(text, raster));
         if (Runner::END_STOP as u32) < mirror {
             return self.aborted(14, self.place);
         }
-        self.past_exposure(next, mirror as u16)
+        self.exposed(mirror as u16)
     }
 
     // Another pass, another repeat, or the raster's end.
-    fn loop_back(mut self, text: &[u8], at: Place, target: u8) -> Stepped
-        requires { ⌜ (at .0 ≡ self .place) × (length (now text) ≤ 128) ⌝ }
-        ensures { λ r. ⌜ r ≡ looped (now (text .entry)) target self ⌝ }
+    fn loop_back(self, text: &[u8], at: Place, target: u8) -> Stepped
+        requires { ⌜ Stands (now text) self (Command.LoopBack target) ⌝ }
+        ensures { λ r. ⌜ r ≡ act 127 (now (text .entry)) self (unless (firstCode (loopRows (now (text .entry)) (at .0) target (openOf self))) (Act.Loops target)) ⌝ }
     {
+        let code = loop_fault(text, at, target, self.opened());
+        if code != 0 {
+            return self.aborted(3, self.place);
+        }
         if 1 < self.passes {
-            self.place = target;
-            self.count = 0;
-            self.passes = self.passes - 1;
             return Stepped {
                 event: Event::Loop(target),
-                runner: self,
+                runner: Runner {
+                    place: target,
+                    count: 0,
+                    passes: self.passes - 1,
+                    ..self
+                },
             };
         }
         if 1 < self.repeats {
-            self.place = self.raster;
-            self.repeats = self.repeats - 1;
             return Stepped {
                 event: Event::Next,
-                runner: self,
+                runner: Runner {
+                    place: self.raster,
+                    repeats: self.repeats - 1,
+                    ..self
+                },
             };
         }
-        self.place = next_place(text, at);
-        self.raster = Runner::NONE;
         Stepped {
             event: Event::Done,
-            runner: self,
+            runner: Runner {
+                place: self.place + 2,
+                raster: Runner::NONE,
+                ..self
+            },
         }
     }
 
-    // The delay at a place shown.
-    fn delay(mut self, text: &[u8], at: Place) -> Stepped
-        requires { ⌜ (at .0 ≡ self .place) × (length (now text) ≤ 128) ⌝ }
-        ensures { λ r. ⌜ r ≡ delayed (now (text .entry)) self ⌝ }
+    // A delay shown.
+    fn delay(self, time: u16) -> Stepped
+        requires { ⌜ self .place + 3 < 256 ⌝ }
+        ensures { λ r. ⌜ r ≡ to (Event.Wait time) (withPlace (self .place + 3) self) ⌝ }
     {
-        let time = octets::word(text, at.number() as usize + 1);
-        self.place = next_place(text, at);
         Stepped {
             event: Event::Wait(time),
-            runner: self,
+            runner: Runner {
+                place: self.place + 3,
+                ..self
+            },
         }
     }
 
     // Another round of the sequence.
-    fn another(mut self) -> Stepped
+    fn another(self) -> Stepped
         requires { ⌜ 1 < self .rounds ⌝ }
         ensures { λ r. ⌜ r ≡ another self ⌝ }
     {
-        self.place = 4;
-        self.rounds = self.rounds - 1;
         Stepped {
             event: Event::Next,
-            runner: self,
+            runner: Runner {
+                place: 4,
+                rounds: self.rounds - 1,
+                ..self
+            },
         }
     }
 
     // Another round, or the called sequence made the status sequence, to be entered next.
-    fn call(mut self, n: u8) -> Stepped
-        ensures { λ r. ⌜ r ≡ called 127 n self ⌝ }
+    fn call(self, text: &[u8], at: Place, n: u8) -> Stepped
+        ensures { λ r. ⌜ r ≡ act 127 (now (text .entry)) self (unless (firstCode (closeRows (now (text .entry)) (at .0) (openOf self))) (Act.Calls n)) ⌝ }
     {
+        let code = close_fault(text, at, self.opened());
+        if code != 0 {
+            return self.aborted(3, self.place);
+        }
         if 1 < self.rounds {
             return self.another();
         }
-        if 127 < n {
+        if memory::LAST_SEQUENCE < n {
             return self.aborted(4, self.place);
         }
-        self.sequence = n;
-        self.place = 0;
-        self.entering = true;
         Stepped {
             event: Event::Call(n),
-            runner: self,
+            runner: Runner {
+                sequence: n,
+                place: 0,
+                entering: true,
+                ..self
+            },
         }
     }
 
     // Another round, or the run's end.
-    fn terminate(mut self) -> Stepped
-        ensures { λ r. ⌜ r ≡ ended self ⌝ }
+    fn terminate(self, text: &[u8], at: Place) -> Stepped
+        ensures { λ r. ⌜ r ≡ act 127 (now (text .entry)) self (unless (firstCode (closeRows (now (text .entry)) (at .0) (openOf self))) Act.Ends) ⌝ }
     {
+        let code = close_fault(text, at, self.opened());
+        if code != 0 {
+            return self.aborted(3, self.place);
+        }
         if 1 < self.rounds {
             return self.another();
         }
-        self.running = false;
         Stepped {
             event: Event::End,
-            runner: self,
-        }
-    }
-
-    // What the runner does with the judgement of the command at its place.
-    fn act(self, text: &[u8], at: Place, judgement: Act) -> Stepped
-        requires { ⌜ (at .0 ≡ self .place) × (length (now text) ≤ 128) × Room (self .count) judgement ⌝ }
-        ensures { λ r. ⌜ r ≡ act 127 (now (text .entry)) self judgement ⌝ }
-    {
-        match judgement {
-            Act::Refused(code) => self.aborted(code, self.place),
-            Act::Opens => self.run_raster(text, at),
-            Act::Exposes(raster) => self.expose(text, at, raster),
-            Act::Loops(target) => self.loop_back(text, at, target),
-            Act::Waits => self.delay(text, at),
-            Act::Calls(n) => self.call(n),
-            Act::Ends => self.terminate(),
+            runner: Runner {
+                running: false,
+                ..self
+            },
         }
     }
 
@@ -560,9 +578,18 @@ impl Runner {
         if self.entering {
             return self.enter(text);
         }
-        match Place::of(self.place) {
-            Placed::Outside => self.aborted(3, self.place),
-            Placed::At(at) => self.act(text, at, judge(text, lists, at, self.opened())),
+        let Placed::At(at) = Place::of(self.place) else {
+            return self.aborted(3, self.place);
+        };
+        let command = sequence::command_at(text, at);
+        match command {
+            Command::RunRaster => self.run_raster(text, lists, at),
+            Command::Expose(time) => self.expose(text, time),
+            Command::LoopBack(target) => self.loop_back(text, at, target),
+            Command::CallSequence(n) => self.call(text, at, n),
+            Command::Terminate => self.terminate(text, at),
+            Command::Delay(time) => self.delay(time),
+            Command::Nothing | Command::Unknown | Command::Unfit => self.aborted(3, self.place),
         }
     }
 

@@ -37,7 +37,7 @@ hops-from (hop y h) here l = let w = hops-le h in absurd (omega arith)
 hops-from (hop y h) (hop z g) l = hops-from h g l
 
 -- ── a start that was found
-or-either : {A : Type 0} (a b : Bool) → (a || b) ≡ true → (a ≡ true → A) → (b ≡ true → A) → A
+pub or-either : {A : Type 0} (a b : Bool) → (a || b) ≡ true → (a ≡ true → A) → (b ≡ true → A) → A
 or-either true b e f g = f refl
 or-either false b e f g = g e
 

@@ -1,21 +1,18 @@
 -- Laws of a text: where commands stand, and what their bytes say. They stand on the definitions of specs/ alone.
 -- Assumes nothing.
 use Prim.Native.Nat.{ℕ, zero, suc, _+_, _-_, _≤_, _<_}
-use native.Mathlib.Nat.{sub-zero}
 use native.Mathlib.Omega.{arith}
-use mathlib.Core.Path.{_≡_, refl, sym, _∙_, subst}
+use mathlib.Core.Path.{_≡_, refl, sym, ap, _∙_, subst}
 use mathlib.Core.Bool.{Bool, true, false, cond, not, _&&_, _||_, true≢false, false≢true}
-use mathlib.Core.List.{List, [], _∷_, _++_}
+use mathlib.Core.List.{List, [], _∷_}
 use mathlib.Core.Logic.{_⊎_, ⊎-elim, inl, inr}
 use lib.Dec.{ltb, leb, eqb}
-use lib.ListN.{length, take, drop}
-use lib.Seq.{take-nil}
-use borrow.Author.Tests.{ltb-false, leb-true, leb-false, eqb-true, not-false, eq-eqb, ne-eqb}
-use Rattle.octets.specs.Bytes.{byteAt, wordAt, xorOn, xorOf}
-use Rattle.octets.proofs.Laws.{xor-append}
+use lib.ListN.{length}
+use borrow.Author.Tests.{ltb-false, leb-true, leb-false, eqb-true, eqb-false, not-false, le-ltb, eq-eqb, ne-eqb}
+use Rattle.octets.specs.Bytes.{byteAt, wordAt}
 use Rattle.sequence.specs.declared.Command.{Command}
 use Rattle.sequence.specs.declared.Command.the-variants.{RunRaster, Expose, LoopBack, CallSequence, Terminate, Delay, Nothing, Unknown, Unfit}
-use Rattle.sequence.specs.Text.{limit, lengthGood, numberOf, sizeOf, ofNumber, decoded, noneThere, commandAt, sizeAt}
+use Rattle.sequence.specs.Text.{limit, lengthGood, numberOf, sizeOf, ofNumber, decoded, noneThere, commandAt, sizeAt, isRunRaster}
 use Rattle.sequence.specs.Starts.{starts}
 
 -- ── tests joined
@@ -78,13 +75,14 @@ module _ (P : Command → Type 0) where
   each n [] f = tt
   each n (k ∷ ks) f = (f k, each n ks f)
 
-  of-number : (n : ℕ) (ks : List Command) → P Unknown → Each P n ks → P (ofNumber n ks)
-  of-number n [] u e = u
-  of-number n (k ∷ ks) u (f, e) = choose (eqb n (numberOf k)) (λ t. f (eqb-true n (numberOf k) t)) (of-number n ks u e)
+  of-number : (n : ℕ) (ks : List Command) → (Each (λ k. ⊥) n ks → P Unknown) → Each P n ks → P (ofNumber n ks)
+  of-number n [] u e = u tt
+  of-number n (k ∷ ks) u (f, e) =
+      choose (eqb n (numberOf k)) (λ t. f (eqb-true n (numberOf k) t)) (λ t. of-number n ks (λ s. u (eqb-false n (numberOf k) t, s)) e)
     where
-      choose : {j : Command} (t : Bool) → (t ≡ true → P k) → P j → P (cond t k j)
+      choose : {j : Command} (t : Bool) → (t ≡ true → P k) → (t ≡ false → P j) → P (cond t k j)
       choose true x y = x refl
-      choose false x y = y
+      choose false x y = y refl
 
   ways : (n u x : Bool) (k : Command) → P Nothing → P Unknown → P Unfit → (n ≡ false → x ≡ false → P k)
       → P (cond n Nothing (cond u Unknown (cond x Unfit k)))
@@ -100,7 +98,7 @@ module _ (P : Command → Type 0) where
   of-command text p a b c d =
       let n = byteAt text p in
       ways (noneThere text p) (eqb (sizeOf n) 0) (ltb (limit text) (p + sizeOf n)) (decoded text p) a b c
-      (λ e f. of-number n (six text p) b (let w = some-there text p e in d record { from = w .from; fits = ltb-false (limit text) (p + sizeOf n) f; inside = w .inside }))
+      (λ e f. of-number n (six text p) (λ s. b) (let w = some-there text p e in d record { from = w .from; fits = ltb-false (limit text) (p + sizeOf n) f; inside = w .inside }))
 
 -- none of the six commands has this number
 abbrev pub Strange : ℕ → Type 0
@@ -110,10 +108,34 @@ pub size-strange : (n : ℕ) → Strange n → 0 ≡ sizeOf n
 unfolding sizeOf
 size-strange n ((((((u, a), b), c), d), e), f) = rw (ne-eqb n 0x90 a, ne-eqb n 0x91 b, ne-eqb n 0x92 c, ne-eqb n 0x93 d, ne-eqb n 0x94 e, ne-eqb n 0x95 f)
 
-pub decoded-strange : (text : List ℕ) (p n : ℕ) → n ≡ byteAt text p → Strange n → Unknown ≡ decoded text p
-unfolding decoded
-decoded-strange text p n h ((((((u, a), b), c), d), e), f) =
-    rw (← h, ne-eqb n 0x90 a, ne-eqb n 0x91 b, ne-eqb n 0x92 c, ne-eqb n 0x93 d, ne-eqb n 0x94 e, ne-eqb n 0x95 f)
+pub size-zero : 0 ≡ sizeOf 0
+unfolding sizeOf
+size-zero = refl
+
+-- the command of a number
+abbrev pub numbered : List ℕ → ℕ → ℕ → Command
+numbered text p n = cond (eqb (sizeOf n) 0) Unknown (ofNumber n (six text p))
+
+-- it stands where its bytes lie among the commands, and takes as many as its number says
+module _ (text : List ℕ) (p n : ℕ) where
+  pub command-numbered : byteAt text p ≡ n → noneThere text p ≡ false → p + sizeOf n ≤ limit text → commandAt text p ≡ numbered text p n
+  unfolding commandAt decoded
+  command-numbered e none fits = rw (e, none, le-ltb (limit text) (p + sizeOf n) fits)
+
+  size-numbered : sizeOf (numberOf (numbered text p n)) ≡ sizeOf n
+  size-numbered =
+      by-test (eqb (sizeOf n) 0)
+      (λ e. rw (e, eqb-true (sizeOf n) 0 e) (sym size-zero))
+      (λ e. rw e
+      (of-number Sized n (six text p) (λ (a, (b, (c, (d, (f, (g, u)))))). sym size-zero ∙ size-strange n ((((((u, a), b), c), d), f), g))
+      (each Sized n (six text p) (λ k h. ap sizeOf (sym h)))))
+    where
+      Sized : Command → Type 0
+      Sized k = sizeOf (numberOf k) ≡ sizeOf n
+
+  pub size-stands : byteAt text p ≡ n → noneThere text p ≡ false → p + sizeOf n ≤ limit text → sizeAt text p ≡ sizeOf n
+  unfolding sizeAt
+  size-stands e none fits = ap (λ (k : Command). sizeOf (numberOf k)) (command-numbered e none fits) ∙ size-numbered
 
 -- the opcode and the operand that stand at a command's place
 abbrev pub Bytes : List ℕ → ℕ → Command → Type 0
@@ -144,18 +166,20 @@ module _ (text : List ℕ) (p : ℕ) where
       of-command (Takes text p) text p (inl refl) (inl refl) (inl refl)
       (λ w. each (Takes text p) (byteAt text p) (six text p) (λ k e. inr (subst (λ (n : ℕ). Whole text p (sizeOf n)) e w)))
 
-  pub size-fits : (sizeAt text p ≡ 0) ⊎ (p + sizeAt text p ≤ limit text)
-  size-fits = ⊎-elim inl (λ w. inr (w .fits)) size-whole
-
   pub size-inside : 0 < sizeAt text p → (p + sizeAt text p < length text) × (4 ≤ p)
   size-inside h = ⊎-elim (λ e. absurd (omega arith)) (λ w. (omega arith, w .from)) size-whole
 
+-- a run raster stands where the number says so and a command stands whole
+pub raster-stands : (text : List ℕ) (p : ℕ) → isRunRaster (commandAt text p) ≡ cond (eqb (sizeAt text p) 0) false (eqb (byteAt text p) 0x90)
+unfolding sizeAt sizeOf
+raster-stands text p =
+    of-command Stands text p refl refl refl (λ w. (λ e. rw e, (λ e. rw e, (λ e. rw e, (λ e. rw e, (λ e. rw e, (λ e. rw e, tt)))))))
+  where
+    Stands : Command → Type 0
+    Stands k = isRunRaster k ≡ cond (eqb (sizeOf (numberOf k)) 0) false (eqb (byteAt text p) 0x90)
+
 -- ── the starts counted on from a place
 module _ (text : List ℕ) where
-  pub starts-none : (left p : ℕ) → left ≡ 0 → starts text left p ≡ []
-  unfolding starts
-  starts-none left p e = rw e
-
   pub starts-off : (left p size : ℕ) → size ≡ sizeAt text p → size ≡ 0 → starts text left p ≡ []
   unfolding starts
   starts-off zero p size e z = refl
@@ -171,13 +195,18 @@ module _ (text : List ℕ) where
   pub next-inside : (p size : ℕ) → size ≡ sizeAt text p → (size ≡ 0 → ⊥) → p + size < length text
   next-inside p size e z = omega (arith, size-inside text p (omega arith))
 
--- ── a line list's checksum
-drop-take : (k n : ℕ) (l : List ℕ) → drop k (take n l) ≡ take (n - k) (drop k l)
-drop-take zero n l = rw (sub-zero n)
-drop-take (suc k) zero l = let e : 0 - suc k ≡ 0 = omega arith in rw e
-drop-take (suc k) (suc n) [] = rw (take-nil (suc n - suc k))
-drop-take (suc k) (suc n) (x ∷ l) = let e : suc n - suc k ≡ n - k = omega arith in rw e (drop-take k n l)
+  -- where as many are looked at as bytes stand from p on, one more finds no more
+  starts-more : (left p : ℕ) → length text ≤ left + p → starts text (suc left) p ≡ starts text left p
+  unfolding starts
+  starts-more zero p h = starts-off 1 p (sizeAt text p) refl (⊎-elim (λ e. e) (λ w. absurd (omega arith)) (size-whole text p))
+  starts-more (suc left) p h =
+      by-test (eqb (sizeAt text p) 0)
+      (λ e. rw e)
+      (λ e. ap (λ (ps : List ℕ). cond (eqb (sizeAt text p) 0) [] (p ∷ ps)) (starts-more left (p + sizeAt text p) (omega (arith, eqb-false (sizeAt text p) 0 e))))
 
--- the XOR of the part before byte 3 and the part after it is that of both at once
-pub list-sum : (l : List ℕ) (len : ℕ) → xorOn (xorOn 0 (take 3 l)) (take (len - 4) (drop 4 l)) ≡ xorOf (take 3 l ++ drop 4 (take len l))
-list-sum l len = rw (drop-take 4 len l, xor-append 0 (take 3 l))
+  pub starts-from : (p size : ℕ) → size ≡ sizeAt text p → (size ≡ 0 → ⊥) → starts text (length text) p ≡ p ∷ starts text (length text) (p + size)
+  starts-from p size e z =
+      let i = next-inside p size e z in
+      let g : suc (length text - 1) ≡ length text = omega arith in
+      starts-on (length text) p size (λ l. omega arith) e z
+      ∙ ap (λ (ps : List ℕ). p ∷ ps) (sym (rw g at (starts-more (length text - 1) (p + size) (omega arith))))

@@ -1,3 +1,5 @@
 pub mod Laws
+pub mod Sums
 pub mod Hops
+pub mod Targets
 pub mod Samples

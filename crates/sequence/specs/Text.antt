@@ -91,3 +91,15 @@ commandAt text p =
 -- the bytes that the command at a place takes, 0 where none stands there whole
 unfoldable pub sizeAt : List ℕ → ℕ → ℕ
 sizeAt text p = sizeOf (numberOf (commandAt text p))
+
+-- whether it is a run raster
+abbrev pub isRunRaster : Command → Bool
+isRunRaster RunRaster = true
+isRunRaster (Expose t) = false
+isRunRaster (LoopBack t) = false
+isRunRaster (CallSequence n) = false
+isRunRaster Terminate = false
+isRunRaster (Delay t) = false
+isRunRaster Nothing = false
+isRunRaster Unknown = false
+isRunRaster Unfit = false

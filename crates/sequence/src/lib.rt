@@ -1,12 +1,14 @@
 // Sequences and line lists as bytes: the commands of a text, a raster's words, and the tests of an entry, of a line list and
 // of the science flags. A text is one sequence's own bytes; every reader answers for every text.
 ghost use mathlib.Core.Path.{_≡_};
-ghost use Prim.Native.Nat.{_+_, _≤_, _<_};
+ghost use Prim.Native.Nat.{ℕ, _+_, _≤_, _<_};
+ghost use mathlib.Core.Bool.{_&&_};
 ghost use mathlib.Core.List.{_++_};
-ghost use lib.ListN.{take, drop};
+ghost use lib.Dec.{eqb, leb};
+ghost use lib.ListN.{length, take, drop};
 ghost use Rattle.octets.specs.Bytes.{byteAt, wordAt, xorOf};
-ghost use Rattle.sequence.specs.Text.{limit, lengthGood, xorGood, headerOf, numberOf, sizeOf, sizeAt, noneThere, decoded, commandAt};
-ghost use Rattle.sequence.specs.Starts.{among, starts, exposesBetween, firstExposure, targetGood};
+ghost use Rattle.sequence.specs.Text.{limit, lengthGood, xorGood, headerOf, sizeOf, sizeAt, noneThere, commandAt, isRunRaster};
+ghost use Rattle.sequence.specs.Starts.{among, starts, firstExposure, targetGood};
 ghost use Rattle.sequence.specs.Raster.{rasterAt, flagsGood};
 ghost use Rattle.sequence.specs.LineList.{listTest};
 use memory::Place;
@@ -58,29 +60,26 @@ pub enum ListTest {
     Bad,
 }
 
+// A place as an index into a text.
+fn index(at: Place) -> usize
+    ensures { λ r. ⌜ (r ≡ at .0) × (r < 256) ⌝ }
+{
+    at.number() as usize
+}
+
 // The number of bytes that a command takes, 0 where no command has this number.
 pub fn size_of(number: u8) -> u8
     ensures { λ r. ⌜ (r ≡ sizeOf number) × (r ≤ 23) ⌝ }
 {
-    if number == 0x90 {
-        return 23;
+    match number {
+        0x90 => 23,
+        0x91 => 3,
+        0x92 => 2,
+        0x93 => 2,
+        0x94 => 1,
+        0x95 => 3,
+        _ => 0,
     }
-    if number == 0x91 {
-        return 3;
-    }
-    if number == 0x92 {
-        return 2;
-    }
-    if number == 0x93 {
-        return 2;
-    }
-    if number == 0x94 {
-        return 1;
-    }
-    if number == 0x95 {
-        return 3;
-    }
-    0
 }
 
 // The place of the checksum.
@@ -102,12 +101,20 @@ pub fn length_good(text: &[u8]) -> bool
     len as usize <= text.len()
 }
 
+// Whether the byte at a place is the XOR of the others: begun with that byte, the XOR of all takes it out again.
+fn sum_good(s: &[u8], at: usize) -> bool
+    ensures { λ r. ⌜ r ≡ eqb (byteAt (now (s .entry)) at) (xorOf (take at (now (s .entry)) ++ drop (at + 1) (now (s .entry)))) ⌝ }
+{
+    let sum = octets::byte(s, at);
+    sum == octets::xor_on(sum, s)
+}
+
 // Whether the last byte is the XOR of all before it.
 pub fn xor_good(text: &[u8]) -> bool
     ensures { λ r. ⌜ r ≡ xorGood (now (text .entry)) ⌝ }
 {
-    let end = limit(text) as usize;
-    octets::xor_on(0, octets::part(text, 0, end)) == octets::byte(text, end)
+    let len = octets::byte(text, 0) as usize;
+    sum_good(octets::part(text, 0, len), limit(text) as usize)
 }
 
 // The test of an entry: length, XOR, repeats.
@@ -140,20 +147,20 @@ fn none_there(text: &[u8], at: usize) -> bool
     limit(text) as usize <= at
 }
 
-// The command of the number at a place, with its operand.
-fn decode(text: &[u8], at: usize) -> Command
-    requires { ⌜ at < 256 ⌝ }
-    ensures { λ r. ⌜ r ≡ decoded (now (text .entry)) at ⌝ }
+// How many bytes stand from a place on before the checksum.
+fn room(text: &[u8], at: usize) -> u8
+    requires { ⌜ at ≤ limit (now text) ⌝ }
+    ensures { λ r. ⌜ at + r ≡ limit (now (text .entry)) ⌝ }
 {
-    match octets::byte(text, at) {
-        0x90 => Command::RunRaster,
-        0x91 => Command::Expose(octets::word(text, at + 1)),
-        0x92 => Command::LoopBack(octets::byte(text, at + 1)),
-        0x93 => Command::CallSequence(octets::byte(text, at + 1)),
-        0x94 => Command::Terminate,
-        0x95 => Command::Delay(octets::word(text, at + 1)),
-        _ => Command::Unknown,
-    }
+    limit(text) - at as u8
+}
+
+// The word at a place of a text that holds it whole.
+fn word_in(text: &[u8], at: usize) -> u16
+    requires { ⌜ at + 1 < length (now text) ⌝ }
+    ensures { λ r. ⌜ r ≡ wordAt (now (text .entry)) at ⌝ }
+{
+    octets::pair(text[at], text[at + 1])
 }
 
 // What stands at a place, which may be any number.
@@ -163,35 +170,43 @@ fn command_from(text: &[u8], at: usize) -> Command
     if none_there(text, at) {
         return Command::Nothing;
     }
-    let size = size_of(octets::byte(text, at)) as usize;
+    let number = text[at];
+    let size = size_of(number);
     if size == 0 {
         return Command::Unknown;
     }
-    if (limit(text) as usize) < at + size {
+    if room(text, at) < size {
         return Command::Unfit;
     }
-    decode(text, at)
+    match number {
+        0x90 => Command::RunRaster,
+        0x91 => Command::Expose(word_in(text, at + 1)),
+        0x92 => Command::LoopBack(text[at + 1]),
+        0x93 => Command::CallSequence(text[at + 1]),
+        0x94 => Command::Terminate,
+        _ => Command::Delay(word_in(text, at + 1)),
+    }
 }
 
 // The command at a place.
 pub fn command_at(text: &[u8], at: Place) -> Command
     ensures { λ r. ⌜ r ≡ commandAt (now (text .entry)) (at .0) ⌝ }
 {
-    command_from(text, at.number() as usize)
+    command_from(text, index(at))
 }
 
 // The byte that stands k after a place.
 fn byte_after(text: &[u8], at: Place, k: u8) -> u8
     ensures { λ r. ⌜ r ≡ byteAt (now (text .entry)) (at .0 + k) ⌝ }
 {
-    octets::byte(text, at.number() as usize + k as usize)
+    octets::byte(text, index(at) + k as usize)
 }
 
 // The word that stands k after a place.
 fn word_after(text: &[u8], at: Place, k: u8) -> u16
     ensures { λ r. ⌜ r ≡ wordAt (now (text .entry)) (at .0 + k) ⌝ }
 {
-    octets::word(text, at.number() as usize + k as usize)
+    octets::word(text, index(at) + k as usize)
 }
 
 // The words of the run raster at a place.
@@ -221,11 +236,39 @@ pub fn raster_at(text: &[u8], at: Place) -> RasterWords
     }
 }
 
+// The identifier of the run raster at a place.
+pub fn id_at(text: &[u8], at: Place) -> u16
+    ensures { λ r. ⌜ r ≡ rasterAt (now (text .entry)) (at .0) .id ⌝ }
+{
+    word_after(text, at, 1)
+}
+
+// The mirror's first position in the run raster at a place.
+pub fn initial_at(text: &[u8], at: Place) -> u16
+    ensures { λ r. ⌜ r ≡ rasterAt (now (text .entry)) (at .0) .initial ⌝ }
+{
+    word_after(text, at, 3)
+}
+
+// The loops of the run raster at a place.
+pub fn loops_at(text: &[u8], at: Place) -> u16
+    ensures { λ r. ⌜ r ≡ rasterAt (now (text .entry)) (at .0) .loops ⌝ }
+{
+    word_after(text, at, 5)
+}
+
 // The exposures in a set of the run raster at a place.
 pub fn exposures_at(text: &[u8], at: Place) -> u8
     ensures { λ r. ⌜ r ≡ rasterAt (now (text .entry)) (at .0) .exposures ⌝ }
 {
     byte_after(text, at, 13) % 16
+}
+
+// The repeats of the run raster at a place.
+pub fn repeats_at(text: &[u8], at: Place) -> u16
+    ensures { λ r. ⌜ r ≡ rasterAt (now (text .entry)) (at .0) .repeats ⌝ }
+{
+    word_after(text, at, 15) % 4096
 }
 
 // The mirror's step in the run raster at a place.
@@ -235,20 +278,18 @@ pub fn step_at(text: &[u8], at: Place) -> u16
     word_after(text, at, 19)
 }
 
+// The line list's number in the run raster at a place.
+pub fn list_at(text: &[u8], at: Place) -> u8
+    ensures { λ r. ⌜ r ≡ rasterAt (now (text .entry)) (at .0) .list ⌝ }
+{
+    byte_after(text, at, 21)
+}
+
 // Whether at most one of the science flags, bits 2 to 5, is set.
 pub fn flags_good(science: u8) -> bool
     ensures { λ r. ⌜ r ≡ flagsGood science ⌝ }
 {
     science / 32 % 2 + science / 16 % 2 + science / 8 % 2 + science / 4 % 2 <= 1
-}
-
-// The XOR of the first `len` bytes of a line list but byte 3, its checksum.
-fn xor_of_others(list: &[u8], len: u8) -> u8
-    requires { ⌜ 4 ≤ len ⌝ }
-    ensures { λ r. ⌜ r ≡ xorOf (take 3 (now (list .entry)) ++ drop 4 (take len (now (list .entry)))) ⌝ }
-{
-    let head = octets::xor_on(0, octets::part(list, 0, 3));
-    octets::xor_on(head, octets::part(list, 4, len as usize - 4))
 }
 
 // The test of a line list: windows, length, checksum.
@@ -266,27 +307,10 @@ pub fn list_test(list: &[u8]) -> ListTest
     if len != 14 + 6 * windows {
         return ListTest::Bad;
     }
-    if octets::byte(list, 3) == xor_of_others(list, len) {
+    if sum_good(octets::part(list, 0, len as usize), 3) {
         ListTest::Good
     } else {
         ListTest::Bad
-    }
-}
-
-// The number of a command, 0 where none stands whole.
-fn number_of(command: Command) -> u8
-    ensures { λ r. ⌜ r ≡ numberOf command ⌝ }
-{
-    match command {
-        Command::RunRaster => 0x90,
-        Command::Expose(_) => 0x91,
-        Command::LoopBack(_) => 0x92,
-        Command::CallSequence(_) => 0x93,
-        Command::Terminate => 0x94,
-        Command::Delay(_) => 0x95,
-        Command::Nothing => 0,
-        Command::Unknown => 0,
-        Command::Unfit => 0,
     }
 }
 
@@ -294,75 +318,75 @@ fn number_of(command: Command) -> u8
 fn size_at(text: &[u8], at: usize) -> usize
     ensures { λ r. ⌜ r ≡ sizeAt (now (text .entry)) at ⌝ }
 {
-    size_of(number_of(command_from(text, at))) as usize
+    if none_there(text, at) {
+        return 0;
+    }
+    let size = size_of(text[at]);
+    if room(text, at) < size {
+        0
+    } else {
+        size as usize
+    }
+}
+
+// Whether a run raster stands whole at a place.
+pub fn raster_stands(text: &[u8], at: Place) -> bool
+    ensures { λ r. ⌜ r ≡ isRunRaster (commandAt (now (text .entry)) (at .0)) ⌝ }
+{
+    let place = index(at);
+    if size_at(text, place) == 0 {
+        return false;
+    }
+    text[place] == 0x90
 }
 
 // The place past the command at a place, or the place itself where none stands there whole.
 pub fn past(text: &[u8], at: Place) -> usize
     ensures { λ r. ⌜ r ≡ at .0 + sizeAt (now (text .entry)) (at .0) ⌝ }
 {
-    at.number() as usize + size_of(number_of(command_at(text, at))) as usize
+    let place = index(at);
+    place + size_at(text, place)
 }
 
-// Whether t is the start of a command, counted on from a place; at most `left` commands are looked at.
-fn start_from(text: &[u8], left: usize, at: usize, t: usize) -> bool
-    ensures { λ r. ⌜ r ≡ among t (starts (now (text .entry)) left at) ⌝ }
+// Whether t is a command's start at or before the first exposure before q, both counted on from a place past the raster.
+fn leads_to_exposure(text: &[u8], from: usize, q: usize, t: usize) -> bool
+    requires { ⌜ 0 < t ⌝ }
+    ensures { λ x. ⌜ ((r : ℕ) → r < from → x ≡ (among t (starts (now (text .entry)) (length (now (text .entry))) from) && leb t (firstExposure (now (text .entry)) r q (starts (now (text .entry)) (length (now (text .entry))) from)))) ⌝ }
 {
-    if left == 0 {
-        return false;
+    let mut at = from;
+    let mut seen = false;
+    while at < q {
+        let size = size_at(text, at);
+        if size == 0 {
+            return false;
+        }
+        if at == t {
+            seen = true;
+        }
+        if text[at] == 0x91 {
+            return seen;
+        }
+        at += size;
     }
-    let size = size_at(text, at);
-    if size == 0 {
-        return false;
-    }
-    if at == t {
-        return true;
-    }
-    start_from(text, left - 1, at + size, t)
-}
-
-// Whether the command at a place is an expose after r and before q.
-fn exposes_between(text: &[u8], at: usize, r: usize, q: usize) -> bool
-    ensures { λ x. ⌜ x ≡ exposesBetween (now (text .entry)) r q at ⌝ }
-{
-    if at <= r {
-        return false;
-    }
-    if q <= at {
-        return false;
-    }
-    octets::byte(text, at) == 0x91
-}
-
-// The first exposure after r and before q, counted on from a place, or 0; at most `left` commands are looked at.
-fn exposure_from(text: &[u8], left: usize, at: usize, r: usize, q: usize) -> usize
-    ensures { λ x. ⌜ x ≡ firstExposure (now (text .entry)) r q (starts (now (text .entry)) left at) ⌝ }
-{
-    if left == 0 {
-        return 0;
-    }
-    let size = size_at(text, at);
-    if size == 0 {
-        return 0;
-    }
-    if exposes_between(text, at, r, q) {
-        return at;
-    }
-    exposure_from(text, left - 1, at + size, r, q)
+    false
 }
 
 // Whether the loop back at q may jump to t, in the raster at r.
 pub fn target_good(text: &[u8], r: Place, q: Place, t: u8) -> bool
     ensures { λ x. ⌜ x ≡ targetGood (now (text .entry)) (r .0) (q .0) t ⌝ }
 {
-    let from = r.number() as usize;
-    let back = q.number() as usize;
+    let raster = index(r);
     let target = t as usize;
-    if target <= from {
+    if target <= raster {
         return false;
     }
-    if !start_from(text, text.len(), 4, target) {
-        return false;
+    let mut at = 4;
+    while at <= raster {
+        let size = size_at(text, at);
+        if size == 0 {
+            return false;
+        }
+        at += size;
     }
-    target <= exposure_from(text, text.len(), 4, from, back)
+    leads_to_exposure(text, at, index(q), target)
 }

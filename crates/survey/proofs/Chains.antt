@@ -7,8 +7,8 @@ use mathlib.Core.Path.{_≡_, refl, sym, ap, ap₂, _∙_, subst}
 use mathlib.Core.Bool.{Bool, true, false, cond, _||_, true≢false}
 use mathlib.Core.List.{List, [], _∷_, _++_, reverse, reverse-cons, append-nil}
 use lib.Dec.{eqb}
-use lib.ListN.{length, getD, set, replicate, length-set, length-append, length-reverse, getD-replicate}
-use lib.Seq.{getD-set-same, getD-set-other, set-at, append-snoc}
+use lib.ListN.{length, getD, set, take, replicate, length-set, length-append, length-reverse, getD-replicate}
+use lib.Seq.{getD-set-same, getD-set-other, set-at, append-snoc, take-all}
 use borrow.Author.Tests.{eq-eqb, ne-eqb, lt-ltb, le-ltb}
 use Rattle.memory.specs.Memory.{tablesWrong, entryOf}
 use Rattle.memory.proofs.Laws.{entry-short}
@@ -21,11 +21,12 @@ use Rattle.survey.specs.declared.Walked.the-variants.{Fault, Closed}
 use Rattle.survey.specs.declared.Ending.{Ending}
 use Rattle.survey.specs.declared.Ending.the-variants.{Unlisted, Finishes, Returns, Faulty}
 use Rattle.survey.specs.declared.Chain.{Chain}
+use Rattle.survey.specs.declared.Checked.{Checked}
 use Rattle.survey.specs.declared.Report.{Report}
 use Rattle.survey.specs.Walk.{Finding, passes, faults, checkOne}
 use Rattle.survey.specs.Chain.{Told, told, total, front, onward, follow, chainOf, checkRows, checkOf}
 use Rattle.survey.specs.Report.{padded, reportOf, walkedOf}
-use Rattle.survey.specs.Held.{AtMost, unmarked, Kept, Free, Is, LowCall, joined, ahead, emptyChain, entered, added, ended, faulted}
+use Rattle.survey.specs.Held.{AtMost, unmarked, Kept, Free, Is, LowCall, joined, ahead, emptyChain, reported}
 use Rattle.survey.proofs.Totals.{Octets, part-octets}
 use Rattle.survey.proofs.Laws.{one-most, one-low}
 
@@ -40,6 +41,22 @@ unmarked-set (true ∷ ms) (suc n) h e = unmarked-set ms n (le-of-suc-le-suc h) 
 unmarked-set (false ∷ ms) (suc n) h e = ap suc (unmarked-set ms n (le-of-suc-le-suc h) e)
 
 -- ── a sequence more
+-- listed and marked
+abbrev pub entered : Chain → ℕ → Chain
+entered chain n =
+    record {
+      listed = set (chain .listed) (chain .count) n;
+      marks = set (chain .marks) n true;
+      count = chain .count + 1;
+      steps = chain .steps;
+      exposures = chain .exposures;
+    }
+
+-- and its totals added
+abbrev pub added : Chain → ℕ → ℕ → Chain
+added chain k x =
+    record { listed = chain .listed; marks = chain .marks; count = chain .count; steps = chain .steps + k; exposures = chain .exposures + x }
+
 module _ (chain : Chain) (n : ℕ) (free : Free chain n) where
   pub one-fewer : unmarked (chain .marks) ≡ suc (unmarked (set (chain .marks) n true))
   one-fewer = unmarked-set (chain .marks) n (omega (arith, free .kept .marks-long)) (free .new)
@@ -57,7 +74,7 @@ module _ (chain : Chain) (n : ℕ) (free : Free chain n) where
       rw (e, d) (set-at names 0 (replicate (127 - length names) 0) n (length names) refl ∙ sym (append-snoc names n (replicate (127 - length names) 0)))
 
   pub is-entered : (names : List ℕ) → Is chain names → Is (entered chain n) (n ∷ names)
-  unfolding entered among
+  unfolding among
   is-entered names is =
       let l : length (reverse names) ≡ length names = length-reverse names in
       let c : chain .count ≡ length (reverse names) = is .count ∙ sym l in
@@ -103,19 +120,14 @@ onward-leads go n (passes k x is p Terminates) = rw (add-zero k, add-zero x)
 onward-leads go n (passes k x is p (CallsOn m)) = refl
 onward-leads go n (faults p code) = refl
 
--- ── reports of a chain that ends here
-module _ (chain : Chain) (names : List ℕ) (is : Is chain names) where
-  pub fault-said : (k x code n p : ℕ) → faulted chain (Faulty code n p) ≡ reportOf (joined names k x (told [] (Faulty code n p) 0 0))
-  unfolding faulted reportOf
-  fault-said k x code n p = rw (append-nil (reverse names), length-reverse names, is .list, is .count)
+-- ── the report of a chain that ends here
+abbrev pub checked : Chain → Ending → Checked
+checked chain e = record { chain = chain; ending = e }
 
-  pub finish-said : ended chain Finishes ≡ reportOf (joined names (chain .steps) (chain .exposures) (told [] Finishes 0 0))
-  unfolding ended reportOf
-  finish-said = rw (add-zero (chain .steps), add-zero (chain .exposures), append-nil (reverse names), length-reverse names, is .list, is .count)
-
-  pub return-said : ended chain Returns ≡ reportOf (joined names (chain .steps) (chain .exposures) (told [] Returns 0 0))
-  unfolding ended reportOf
-  return-said = rw (add-zero (chain .steps), add-zero (chain .exposures), append-nil (reverse names), length-reverse names, is .list, is .count)
+end-said : (chain : Chain) (names : List ℕ) → Is chain names → (e : Ending)
+    → reported (checked chain e) ≡ reportOf (joined names (chain .steps) (chain .exposures) (told [] e 0 0))
+unfolding reported reportOf
+end-said chain names is e = rw (append-nil (reverse names), length-reverse names, is .list, is .count)
 
 -- ── each way out of a closing command
 follow-back : (E : Env) (seqs : List ℕ) (f : ℕ) (names : List ℕ) (m : ℕ) → among m names ≡ true → follow E seqs f names m ≡ told [] Returns 0 0
@@ -124,99 +136,96 @@ follow-back E seqs zero names m e = refl
 follow-back E seqs (suc f) names m e = rw e
 
 -- what is reported, given what stands ahead of the names so far
-abbrev Reports : Chain → (List ℕ → Told) → Report → Type 0
-Reports chain rest r = (names : List ℕ) → Is chain names → r ≡ reportOf (joined names (chain .steps) (chain .exposures) (rest names))
+abbrev Reports : Chain → (List ℕ → Told) → Checked → Type 0
+Reports chain rest r = (names : List ℕ) → Is chain names → reported r ≡ reportOf (joined names (chain .steps) (chain .exposures) (rest names))
 
-module _ (E : Env) (seqs : List ℕ) (chain : Chain) (c : Closing) (r : Report) where
-  pub close-stop : c ≡ Terminates → r ≡ ended chain Finishes → Reports chain (λ names. ahead (follow E seqs (unmarked (chain .marks)) names) c) r
-  close-stop e h names is = rw e (h ∙ finish-said chain names is)
+module _ (E : Env) (seqs : List ℕ) (chain : Chain) (c : Closing) where
+  pub close-stop : c ≡ Terminates → Reports chain (λ names. ahead (follow E seqs (unmarked (chain .marks)) names) c) (checked chain Finishes)
+  close-stop e names is = rw e (end-said chain names is Finishes)
 
   module _ (m : ℕ) (e : c ≡ CallsOn m) where
-    pub close-back : m < 128 → getD (chain .marks) m false ≡ true → r ≡ ended chain Returns
-        → Reports chain (λ names. ahead (follow E seqs (unmarked (chain .marks)) names) c) r
-    close-back l q h names is =
-        rw (e, follow-back E seqs (unmarked (chain .marks)) names m (sym (is .marks m l) ∙ q)) (h ∙ return-said chain names is)
+    pub close-back : m < 128 → getD (chain .marks) m false ≡ true
+        → Reports chain (λ names. ahead (follow E seqs (unmarked (chain .marks)) names) c) (checked chain Returns)
+    close-back l q names is =
+        rw (e, follow-back E seqs (unmarked (chain .marks)) names m (sym (is .marks m l) ∙ q)) (end-said chain names is Returns)
 
-    pub close-next : Reports chain (λ names. follow E seqs (unmarked (chain .marks)) names m) r
+    pub close-next : (r : Checked) → Reports chain (λ names. follow E seqs (unmarked (chain .marks)) names m) r
         → Reports chain (λ names. ahead (follow E seqs (unmarked (chain .marks)) names) c) r
-    close-next h names is = rw e (h names is)
+    close-next r h names is = rw e (h names is)
 
 -- ── each way out of a sequence
 -- the turns left once sequence n is listed
 abbrev left : Chain → ℕ → ℕ
 left chain n = unmarked (set (chain .marks) n true)
 
-pub text-short : (seqs : List ℕ) (n : ℕ) (text : List ℕ) → text ≡ entryOf seqs n → length text ≤ 128
-text-short seqs n text et = rw et (entry-short seqs n)
+-- sequence n is not listed yet, and w was found of its text
+pub record Visit (lists seqs : List ℕ) (chain : Chain) (n : ℕ) (w : Walked) : Type 0 where
+  pub octets : Octets seqs
+  pub free : Free chain n
+  pub found : w ≡ walkedOf (checkOne (envOf lists) (entryOf seqs n))
 
--- sequence n is entered, and w was found of its text
-module _ (lists seqs : List ℕ) (oct : Octets seqs) (chain : Chain) (n : ℕ) (free : Free chain n) (here : Chain) (eh : here ≡ entered chain n)
-    (text : List ℕ) (et : text ≡ entryOf seqs n) (w : Walked) (ew : w ≡ walkedOf (checkOne (envOf lists) text)) where
+pub of-entry : (lists seqs : List ℕ) (n : ℕ) (w : Walked) (text : List ℕ) → text ≡ entryOf seqs n → w ≡ walkedOf (checkOne (envOf lists) (take 128 text))
+    → w ≡ walkedOf (checkOne (envOf lists) (entryOf seqs n))
+of-entry lists seqs n w text et ew = let s = entry-short seqs n in rw (et, take-all 128 (entryOf seqs n) s) at ew
+
+module _ {lists seqs : List ℕ} {chain : Chain} {n : ℕ} {w : Walked} (v : Visit lists seqs chain n w) where
   turned : (names : List ℕ) → Is chain names → (a b : ℕ) → joined names a b (follow (envOf lists) seqs (unmarked (chain .marks)) names n)
       ≡ joined (n ∷ names) (a + stepsIn w) (b + exposuresOf w) (leads (follow (envOf lists) seqs (left chain n) (n ∷ names)) n w)
   unfolding follow
   turned names is a b =
       let go : ℕ → Told = follow (envOf lists) seqs (left chain n) (n ∷ names) in
-      let new : among n names ≡ false = sym (is .marks n (free .low)) ∙ free .new in
-      rw (one-fewer chain n free, new, onward-leads go n (checkOne (envOf lists) (entryOf seqs n)), ← et, ← ew)
+      let new : among n names ≡ false = sym (is .marks n (v .free .low)) ∙ v .free .new in
+      rw (one-fewer chain n (v .free), new, onward-leads go n (checkOne (envOf lists) (entryOf seqs n)), ← v .found)
       (joined-front names a b n (stepsIn w) (exposuresOf w) (leads go n w))
 
-  pub seq-fault : (p code : ℕ) (r : Report) → w ≡ Fault p code → r ≡ faulted here (Faulty code n p)
-      → Reports chain (λ names. follow (envOf lists) seqs (unmarked (chain .marks)) names n) r
-  seq-fault p code r e h names is =
-      rw (turned names is (chain .steps) (chain .exposures), e, h, eh)
-      (fault-said (entered chain n) (n ∷ names) (is-entered chain n free names is) (chain .steps + 0) (chain .exposures + 0) code n p)
+  pub seq-fault : (p code : ℕ) → w ≡ Fault p code
+      → Reports chain (λ names. follow (envOf lists) seqs (unmarked (chain .marks)) names n) (checked (entered chain n) (Faulty code n p))
+  seq-fault p code e names is =
+      rw (turned names is (chain .steps) (chain .exposures), e)
+      (end-said (entered chain n) (n ∷ names) (is-entered chain n (v .free) names is) (Faulty code n p))
 
   module _ (p k x : ℕ) (c : Closing) (e : w ≡ Closed p c k x) where
     most : (k ≤ 2 ^ 54) × (x ≤ 2 ^ 54)
     most =
         subst (AtMost (2 ^ 54)) e
-        (one-most (envOf lists) text w ew (rw et (part-octets seqs (n * 128) 128 oct)) (text-short seqs n text et))
+        (one-most (envOf lists) (entryOf seqs n) w (v .found) (part-octets seqs (n * 128) 128 (v .octets)) (entry-short seqs n))
 
     pub next-low : LowCall c
-    next-low = one-low (envOf lists) text w ew refl p k x c e
+    next-low = one-low (envOf lists) (entryOf seqs n) w (v .found) refl p k x c e
 
-    pub next-fits : (here .steps + k < 2 ^ 64) × (here .exposures + x < 2 ^ 64)
-    unfolding entered
-    next-fits = rw eh (omega (arith, most, room chain n free, free .kept .steps-fit, free .kept .exposures-fit))
+    pub next-fits : (chain .steps + k < 2 ^ 64) × (chain .exposures + x < 2 ^ 64)
+    next-fits = omega (arith, most, room chain n (v .free), v .free .kept .steps-fit, v .free .kept .exposures-fit)
 
-    module _ (next : Chain) (en : next ≡ added here k x) where
-      pub next-kept : Kept next
-      unfolding added entered
-      next-kept =
-          rw (en, eh)
-          record {
-            listed-long = length-set (chain .listed) (chain .count) n ∙ free .kept .listed-long;
-            marks-long = length-set (chain .marks) n true ∙ free .kept .marks-long;
-            all = omega (arith, one-fewer chain n free, free .kept .all);
-            steps-fit = omega (arith, most, free .kept .steps-fit);
-            exposures-fit = omega (arith, most, free .kept .exposures-fit);
-          }
+    pub next-kept : Kept (added (entered chain n) k x)
+    next-kept =
+        record {
+          listed-long = length-set (chain .listed) (chain .count) n ∙ v .free .kept .listed-long;
+          marks-long = length-set (chain .marks) n true ∙ v .free .kept .marks-long;
+          all = omega (arith, one-fewer chain n (v .free), v .free .kept .all);
+          steps-fit = omega (arith, most, v .free .kept .steps-fit);
+          exposures-fit = omega (arith, most, v .free .kept .exposures-fit);
+        }
 
-      pub next-fewer : unmarked (next .marks) + unmarked (next .marks) + 1 < unmarked (chain .marks) + unmarked (chain .marks)
-      unfolding added entered
-      next-fewer = rw (en, eh) (omega (arith, one-fewer chain n free))
+    pub next-fewer : left chain n + left chain n + 1 < unmarked (chain .marks) + unmarked (chain .marks)
+    next-fewer = omega (arith, one-fewer chain n (v .free))
 
-      pub seq-next : (r : Report) → Reports next (λ names. ahead (follow (envOf lists) seqs (unmarked (next .marks)) names) c) r
-          → Reports chain (λ names. follow (envOf lists) seqs (unmarked (chain .marks)) names n) r
-      unfolding added entered
-      seq-next r h names is =
-          let d : next ≡ added (entered chain n) k x = en ∙ ap (λ (y : Chain). added y k x) eh in
-          let i = is-entered chain n free names is in
-          let i′ : Is next (n ∷ names) = rw d record { list = i .list; count = i .count; marks = i .marks } in
-          rw (turned names is (chain .steps) (chain .exposures), e) (rw d at (h (n ∷ names) i′))
+    pub seq-next : (r : Checked) → Reports (added (entered chain n) k x) (λ names. ahead (follow (envOf lists) seqs (left chain n) names) c) r
+        → Reports chain (λ names. follow (envOf lists) seqs (unmarked (chain .marks)) names n) r
+    seq-next r h names is =
+        let i = is-entered chain n (v .free) names is in
+        rw (turned names is (chain .steps) (chain .exposures), e)
+        (h (n ∷ names) record { list = i .list; count = i .count; marks = i .marks })
 
 -- ── the check
 marks-start : (n : ℕ) → n < 128 → getD (emptyChain .marks) n false ≡ false
-unfolding emptyChain
 marks-start n l = getD-replicate 128 n false false l
 
 kept-start : Kept emptyChain
-unfolding emptyChain unmarked
+unfolding unmarked
 kept-start = record { listed-long = refl; marks-long = refl; all = refl; steps-fit = zero-le; exposures-fit = zero-le }
 
 is-start : Is emptyChain []
-unfolding emptyChain padded among
+unfolding padded among
 is-start = record { list = refl; count = refl; marks = λ k h. getD-replicate 128 k false false h }
 
 pub free-start : (start : Chain) (n : ℕ) → start ≡ emptyChain → n < 128 → Free start n
@@ -243,21 +252,21 @@ follow-whole E seqs (suc f) names n =
     onward-whole (λ m. follow E seqs f (n ∷ names) m) n (checkOne E (textOf E seqs n)) (among n names)
 
 module _ (seqs lists : List ℕ) (n : ℕ) (start : Chain) (es : start ≡ emptyChain) (wrong : Bool) (ew : wrong ≡ tablesWrong seqs lists) (r : Report) where
-  nothing-said : (code : ℕ) → faulted start (Unlisted code) ≡ reportOf (told [] (Unlisted code) 0 0)
-  unfolding faulted reportOf emptyChain padded
+  nothing-said : (code : ℕ) → reported (checked start (Unlisted code)) ≡ reportOf (told [] (Unlisted code) 0 0)
+  unfolding reported reportOf padded
   nothing-said code = rw es
 
-  pub check-wrong : wrong ≡ true → r ≡ faulted start (Unlisted 16) → r ≡ reportOf (checkOf seqs lists n)
+  pub check-wrong : wrong ≡ true → r ≡ reported (checked start (Unlisted 16)) → r ≡ reportOf (checkOf seqs lists n)
   unfolding checkOf checkRows
   check-wrong t h = rw (← ew, t) (h ∙ nothing-said 16)
 
-  pub check-high : wrong ≡ false → 127 < n → r ≡ faulted start (Unlisted 7) → r ≡ reportOf (checkOf seqs lists n)
+  pub check-high : wrong ≡ false → 127 < n → r ≡ reported (checked start (Unlisted 7)) → r ≡ reportOf (checkOf seqs lists n)
   unfolding checkOf checkRows
   check-high t l h = rw (← ew, t, lt-ltb 127 n l) (h ∙ nothing-said 7)
 
-  pub check-runs : wrong ≡ false → n ≤ 127
-      → Reports start (λ names. follow (envOf lists) seqs (unmarked (start .marks)) names n) r → r ≡ reportOf (checkOf seqs lists n)
-  unfolding checkOf checkRows chainOf emptyChain unmarked
-  check-runs t l h =
+  pub check-runs : wrong ≡ false → n ≤ 127 → (d : Checked)
+      → Reports start (λ names. follow (envOf lists) seqs (unmarked (start .marks)) names n) d → r ≡ reported d → r ≡ reportOf (checkOf seqs lists n)
+  unfolding checkOf checkRows chainOf unmarked
+  check-runs t l d h er =
       let i : Is start [] = rw es is-start in
-      rw (← ew, t, le-ltb 127 n l) ((rw es at (h [] i)) ∙ ap reportOf (follow-whole (envOf lists) seqs 128 [] n))
+      rw (← ew, t, le-ltb 127 n l) (er ∙ (rw es at (h [] i)) ∙ ap reportOf (follow-whole (envOf lists) seqs 128 [] n))

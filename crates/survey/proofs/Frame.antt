@@ -4,7 +4,7 @@ use Prim.Native.Nat.{ℕ, zero, suc, _+_, _*_, _≤_, _<_}
 use native.Mathlib.Omega.{arith}
 use mathlib.Core.Path.{_≡_, refl, sym, ap, _∙_}
 use mathlib.Core.Bool.{Bool, true, false, cond}
-use mathlib.Core.List.{List, [], _∷_}
+use mathlib.Core.List.{List, [], _∷_, _++_}
 use lib.Dec.{ltb, eqb}
 use lib.ListN.{length, getD, take, drop, length-take, length-drop}
 use lib.Seq.{getD-take, getD-drop, ext-getD}
@@ -26,7 +26,7 @@ use Rattle.runner.specs.declared.Opened.{Opened}
 use Rattle.runner.specs.declared.Opened.the-variants.{Shut}
 use Rattle.runner.specs.declared.Act.{Act}
 use Rattle.runner.specs.declared.Act.the-variants.{Refused, Opens, Exposes, Loops, Waits, Calls, Ends}
-use Rattle.runner.specs.Judge.{listBad, pathRows, rasterRows, runRows, judged, judge}
+use Rattle.runner.specs.Judge.{listBad, pathRows, flagRows, rasterRows, runRows, judged, judge}
 use Rattle.survey.specs.declared.Closing.the-variants.{Terminates, CallsOn}
 use Rattle.survey.specs.Walk.{Finding, passes, faults, closed, paused, oneMore, since, walked, walk, rounds, checkedBy, checkOne}
 use Rattle.survey.specs.Chain.{Told, front, onward, follow, chainOf, checkBy, checkRows, checkOf}
@@ -48,7 +48,7 @@ module _ (E E′ : Env) where
       rest k = cond (eqb (raster .loops) 0) 11 (cond (eqb (raster .repeats) 0) 11 (cond (eqb (raster .exposures) 0) 5 (cond (ltb 8 (raster .exposures)) 5 k)))
 
       named : (b : Bool) → ltb 47 (raster .list) ≡ b
-          → cond b 6 (cond (listBad E′ (raster .list)) 7 (firstCode (pathRows raster))) ≡ cond b 6 (cond (listBad E (raster .list)) 7 (firstCode (pathRows raster)))
+          → cond b 6 (cond (listBad E′ (raster .list)) 7 (firstCode (pathRows raster ++ flagRows raster))) ≡ cond b 6 (cond (listBad E (raster .list)) 7 (firstCode (pathRows raster ++ flagRows raster)))
       named true e = refl
       named false e = rw (h (ltb-false 47 (raster .list) e))
 

@@ -21,7 +21,7 @@ use Rattle.sequence.specs.declared.Command.the-variants.{RunRaster, Expose, Loo
 use Rattle.sequence.specs.declared.Header.{Header}
 use Rattle.sequence.specs.declared.Header.the-variants.{Repeats, Fault}
 use Rattle.sequence.specs.declared.RasterWords.{RasterWords}
-use Rattle.sequence.specs.Text.{lengthGood, limit, headerRows, headerOf, numberOf, sizeOf, sizeAt, commandAt}
+use Rattle.sequence.specs.Text.{lengthGood, limit, headerRows, headerOf, sizeAt, commandAt}
 use Rattle.sequence.specs.Starts.{among, startsOf, firstExposure, targetGood}
 use Rattle.sequence.specs.Raster.{rasterAt}
 use Rattle.sequence.specs.Env.{Env, envOf}
@@ -38,65 +38,56 @@ use Rattle.survey.specs.declared.Closing.the-variants.{Terminates, Calls
 use Rattle.survey.specs.Items.{rasterSteps, itemSteps}
 use Rattle.survey.specs.Walk.{Finding, passes, faults, inFront, between, scan, walked, walk, rounds, checkedBy, checkOne}
 use Rattle.survey.specs.Chain.{checkOf}
-use Rattle.survey.specs.Held.{Narrow}
 use Rattle.survey.proofs.Names.{choice, of-check}
-use Rattle.survey.proofs.Totals.{Octets, part-octets, narrow, Brings, Small, chain-within, entry-small}
+use Rattle.survey.proofs.Totals.{Octets, part-octets, Narrow, narrow, Sized, sized, Brings, Small, chain-within, entry-small}
 
--- ── what a judgement tells of the command at its place
+-- ── what a judgement tells of the open raster
 abbrev Tells : List ℕ → ℕ → Opened → Act → Type 0
 Tells text p o (Refused code) = Unit {0}
-Tells text p Shut Opens = sizeAt text p ≡ 23
+Tells text p Shut Opens = Unit {0}
 Tells text p (Open r c) Opens = r .0 ≡ p
 Tells text p Shut (Exposes at) = ⊥
-Tells text p (Open r c) (Exposes at) = sizeAt text p ≡ 3
+Tells text p (Open r c) (Exposes at) = Unit {0}
 Tells text p Shut (Loops t) = ⊥
-Tells text p (Open r c) (Loops t) = (sizeAt text p ≡ 2) × (targetGood text (r .0) p t ≡ true)
-Tells text p o Waits = sizeAt text p ≡ 3
-Tells text p Shut (Calls m) = 0 < sizeAt text p
+Tells text p (Open r c) (Loops t) = targetGood text (r .0) p t ≡ true
+Tells text p o Waits = Unit {0}
+Tells text p Shut (Calls m) = Unit {0}
 Tells text p (Open r c) (Calls m) = ⊥
-Tells text p Shut Ends = 0 < sizeAt text p
+Tells text p Shut Ends = Unit {0}
 Tells text p (Open r c) Ends = ⊥
 
 by-code : (P : Act → Type 0) (code : ℕ) (a : Act) → ((c : ℕ) → P (Refused c)) → (code ≡ 0 → P a) → P (unless code a)
 by-code P code a f g = choice P (eqb code 0) a (Refused code) (λ e. g (eqb-true code 0 e)) (λ _. f code)
 
 module _ (E : Env) (text : List ℕ) (p : ℕ) where
-  size-is : (k : Command) → commandAt text p ≡ k → sizeAt text p ≡ sizeOf (numberOf k)
-  unfolding sizeAt
-  size-is k e = rw e
-
-  -- the size of a command that no row refused
-  sized : (k : Command) (o : Opened) (code : ℕ) (a : Act) → (sizeAt text p ≡ sizeOf (numberOf k) → Tells text p o a) → commandAt text p ≡ k → Tells text p o (unless code a)
-  sized k o code a f e = by-code (Tells text p o) code a (λ _. tt) (λ _. f (size-is k e))
-
-  tells-command : (o : Opened) (k : Command) → commandAt text p ≡ k → Tells text p o (judged E text p o k)
-  unfolding judged sizeOf runRows rasterRows pathRows exposeRows loopRows closeRows
-  tells-command Shut RunRaster e = sized RunRaster Shut (firstCode (runRows E text p Shut)) Opens (λ s. s) e
-  tells-command (Open r c) RunRaster e =
+  tells-command : (o : Opened) (k : Command) → Tells text p o (judged E text p o k)
+  unfolding judged runRows rasterRows pathRows exposeRows loopRows closeRows
+  tells-command Shut RunRaster = by-code (Tells text p Shut) (firstCode (runRows E text p Shut)) Opens (λ _. tt) (λ _. tt)
+  tells-command (Open r c) RunRaster =
       by-code (Tells text p (Open r c)) (firstCode (runRows E text p (Open r c))) Opens (λ _. tt)
       (λ z. eqb-true (r .0) p (not-false (eqb (r .0) p) (none-holds (runRows E text p (Open r c)) tt z .0)))
-  tells-command Shut (Expose time) e = tt
-  tells-command (Open r c) (Expose time) e = sized (Expose time) (Open r c) (firstCode (exposeRows text time (Open r c))) (Exposes r) (λ s. s) e
-  tells-command Shut (LoopBack t) e = tt
-  tells-command (Open r c) (LoopBack t) e =
+  tells-command Shut (Expose time) = tt
+  tells-command (Open r c) (Expose time) = by-code (Tells text p (Open r c)) (firstCode (exposeRows text time (Open r c))) (Exposes r) (λ _. tt) (λ _. tt)
+  tells-command Shut (LoopBack t) = tt
+  tells-command (Open r c) (LoopBack t) =
       by-code (Tells text p (Open r c)) (firstCode (loopRows text p t (Open r c))) (Loops t) (λ _. tt)
-      (λ z. (size-is (LoopBack t) e, not-false (targetGood text (r .0) p t) (none-holds (loopRows text p t (Open r c)) tt z .1 .1 .0)))
-  tells-command Shut (CallSequence n) e = sized (CallSequence n) Shut (firstCode (closeRows text p Shut)) (Calls n) (λ s. omega arith) e
-  tells-command (Open r c) (CallSequence n) e = tt
-  tells-command Shut Terminate e = sized Terminate Shut (firstCode (closeRows text p Shut)) Ends (λ s. omega arith) e
-  tells-command (Open r c) Terminate e = tt
-  tells-command Shut (Delay time) e = size-is (Delay time) e
-  tells-command (Open r c) (Delay time) e = size-is (Delay time) e
-  tells-command Shut Nothing e = tt
-  tells-command (Open r c) Nothing e = tt
-  tells-command Shut Unknown e = tt
-  tells-command (Open r c) Unknown e = tt
-  tells-command Shut Unfit e = tt
-  tells-command (Open r c) Unfit e = tt
+      (λ z. not-false (targetGood text (r .0) p t) (none-holds (loopRows text p t (Open r c)) tt z .1 .1 .0))
+  tells-command Shut (CallSequence n) = by-code (Tells text p Shut) (firstCode (closeRows text p Shut)) (Calls n) (λ _. tt) (λ _. tt)
+  tells-command (Open r c) (CallSequence n) = tt
+  tells-command Shut Terminate = by-code (Tells text p Shut) (firstCode (closeRows text p Shut)) Ends (λ _. tt) (λ _. tt)
+  tells-command (Open r c) Terminate = tt
+  tells-command Shut (Delay time) = tt
+  tells-command (Open r c) (Delay time) = tt
+  tells-command Shut Nothing = tt
+  tells-command (Open r c) Nothing = tt
+  tells-command Shut Unknown = tt
+  tells-command (Open r c) Unknown = tt
+  tells-command Shut Unfit = tt
+  tells-command (Open r c) Unfit = tt
 
   tells : (o : Opened) → Tells text p o (judge E text p o)
   unfolding judge
-  tells o = tells-command o (commandAt text p) refl
+  tells o = tells-command o (commandAt text p)
 
   -- a command that stands whole ends before the checksum, and the checksum is in the text
   fits : 0 < sizeAt text p → (p + sizeAt text p ≤ limit text) × (limit text < length text)
@@ -191,39 +182,39 @@ module _ (E : Env) (text : List ℕ) (oct : Octets text) where
   passed p size z e = let f = fits E text p (omega arith) in omega arith
 
   module _ (go : ℕ → Opened → ℕ → Finding) (ih : (p : ℕ) (o : Opened) (n : ℕ) → Stands text p o n → Most (limit text - p) o n (go p o n)) where
-    most-walked : (p : ℕ) (o : Opened) (n : ℕ) (a : Act) → Tells text p o a → Stands text p o n → Most (limit text - p) o n (walked text go p o n a)
+    most-walked : (p : ℕ) (o : Opened) (n : ℕ) (a : Act) → Sized text p a → Tells text p o a → Stands text p o n → Most (limit text - p) o n (walked text go p o n a)
     unfolding walked
-    most-walked p o n (Refused code) t s = tt
-    most-walked p Shut n Opens t (i, h) =
-        most-opens (limit text - p) (limit text - (p + sizeAt text p)) (placeAt p) 0 n (go (p + sizeAt text p) (Open (placeAt p) 0) 0) (passed p 23 (omega arith) t)
-        (ih (p + sizeAt text p) (Open (placeAt p) 0) 0 ((i, h), t, here))
-    most-walked p (Open r c) n Opens t (h, e, g) = let l = hops-le g in absurd (omega arith)
-    most-walked p Shut n (Exposes at) t s = absurd t
-    most-walked p (Open r c) n (Exposes at) t (h, e, g) =
-        most-more (limit text - p) (limit text - (p + sizeAt text p)) r r c (c + 1) n (go (p + sizeAt text p) (Open r (c + 1)) (suc n)) (passed p 3 (omega arith) t)
+    most-walked p o n (Refused code) z t s = tt
+    most-walked p Shut n Opens z t (i, h) =
+        most-opens (limit text - p) (limit text - (p + sizeAt text p)) (placeAt p) 0 n (go (p + sizeAt text p) (Open (placeAt p) 0) 0) (passed p 23 (omega arith) z)
+        (ih (p + sizeAt text p) (Open (placeAt p) 0) 0 ((i, h), z, here))
+    most-walked p (Open r c) n Opens z t (h, e, g) = let l = hops-le g in absurd (omega arith)
+    most-walked p Shut n (Exposes at) z t s = absurd t
+    most-walked p (Open r c) n (Exposes at) z t (h, e, g) =
+        most-more (limit text - p) (limit text - (p + sizeAt text p)) r r c (c + 1) n (go (p + sizeAt text p) (Open r (c + 1)) (suc n)) (passed p 3 (omega arith) z)
         (ih (p + sizeAt text p) (Open r (c + 1)) (suc n) (h, e, hops-snoc g (omega arith)))
-    most-walked p Shut n (Loops t) w s = absurd w
-    most-walked p (Open r c) n (Loops t) (w, good) ((i, h), e, g) =
+    most-walked p Shut n (Loops q) z t s = absurd t
+    most-walked p (Open r c) n (Loops t) (z, l) good ((i, h), e, g) =
         let before = between text t (r .0 + sizeAt text (r .0)) t in
         let few : before ≤ n = before-few text (r .0) p t n i t h g good in
-        most-loops (limit text - p) (limit text - (p + sizeAt text p)) text (scan text (r .0) t p n) r c n (go (p + sizeAt text p) Shut 0) (passed p 2 (omega arith) w)
+        most-loops (limit text - p) (limit text - (p + sizeAt text p)) text (scan text (r .0) t p n) r c n (go (p + sizeAt text p) Shut 0) (passed p 2 (omega arith) z)
         (raster-most (rasterAt text (r .0)) before n (narrow text (r .0) oct) few)
         (ih (p + sizeAt text p) Shut 0 (suc (suc i + n), hops-snoc (hops-add (hops-snoc h (omega arith)) g) (omega arith)))
-    most-walked p Shut n Waits t (i, h) =
-        most-waits (limit text - p) (limit text - (p + sizeAt text p)) text p n 0 (go (p + sizeAt text p) Shut 0) (passed p 3 (omega arith) t)
+    most-walked p Shut n Waits z t (i, h) =
+        most-waits (limit text - p) (limit text - (p + sizeAt text p)) text p n 0 (go (p + sizeAt text p) Shut 0) (passed p 3 (omega arith) z)
         (ih (p + sizeAt text p) Shut 0 (suc i, hops-snoc h (omega arith)))
-    most-walked p (Open r c) n Waits t (h, e, g) =
-        most-more (limit text - p) (limit text - (p + sizeAt text p)) r r c c n (go (p + sizeAt text p) (Open r c) (suc n)) (passed p 3 (omega arith) t)
+    most-walked p (Open r c) n Waits z t (h, e, g) =
+        most-more (limit text - p) (limit text - (p + sizeAt text p)) r r c c n (go (p + sizeAt text p) (Open r c) (suc n)) (passed p 3 (omega arith) z)
         (ih (p + sizeAt text p) (Open r c) (suc n) (h, e, hops-snoc g (omega arith)))
-    most-walked p Shut n (Calls m) t s = let f = fits E text p t in (omega arith, omega arith)
-    most-walked p (Open r c) n (Calls m) t s = absurd t
-    most-walked p Shut n Ends t s = let f = fits E text p t in (omega arith, omega arith)
-    most-walked p (Open r c) n Ends t s = absurd t
+    most-walked p Shut n (Calls m) z t s = let f = fits E text p (omega arith) in (omega arith, omega arith)
+    most-walked p (Open r c) n (Calls m) z t s = absurd t
+    most-walked p Shut n Ends z t s = let f = fits E text p (omega arith) in (omega arith, omega arith)
+    most-walked p (Open r c) n Ends z t s = absurd t
 
   most-walk : (f p : ℕ) (o : Opened) (n : ℕ) → Stands text p o n → Most (limit text - p) o n (walk E text f p o n)
   unfolding walk
   most-walk zero p o n s = tt
-  most-walk (suc f) p o n s = most-walked (λ q u m. walk E text f q u m) (most-walk f) p o n (judge E text p o) (tells E text p o) s
+  most-walk (suc f) p o n s = most-walked (λ q u m. walk E text f q u m) (most-walk f) p o n (judge E text p o) (sized E text oct p o) (tells E text p o) s
 
 -- ── one sequence
 -- an entry that can be entered has its checksum in its text

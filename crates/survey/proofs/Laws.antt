@@ -1,11 +1,13 @@
 -- Laws of the walk of one text: one for each way out of its functions, with the callees' contracts as premises. Assumes nothing.
 use Prim.Native.Nat.{ℕ, zero, suc, _+_, _*_, _-_, _≤_, _<_, _^_}
+use native.Mathlib.Nat.{add-zero, zero-add, add-assoc}
+use native.Mathlib.Numerals.{add-one}
 use native.Mathlib.Omega.{arith}
 use mathlib.Core.Path.{_≡_, refl, sym, ap, _∙_, subst}
 use mathlib.Core.Bool.{Bool, true, false, cond}
 use mathlib.Core.List.{List}
 use lib.Dec.{ltb}
-use lib.ListN.{length}
+use lib.ListN.{length, take, length-take}
 use borrow.Author.Tests.{ltb-true, ltb-false, eq-eqb, ne-eqb}
 use Rattle.memory.specs.declared.Place.{Place}
 use Rattle.memory.specs.declared.Placed.{Placed}
@@ -14,27 +16,28 @@ use Rattle.memory.specs.Memory.{placeAt, placeOf}
 use Rattle.sequence.specs.declared.Header.{Header}
 use Rattle.sequence.specs.declared.Header.the-variants.{Repeats, Fault as HeaderFault}
 use Rattle.sequence.specs.Text.{sizeOf, sizeAt, headerOf}
-use Rattle.sequence.proofs.Laws.{none-past}
-use Rattle.sequence.specs.declared.RasterWords.{RasterWords}
 use Rattle.sequence.specs.Raster.{rasterAt}
 use Rattle.sequence.specs.Env.{Env}
+use Rattle.sequence.proofs.Laws.{none-past}
 use Rattle.runner.specs.declared.Opened.{Opened}
 use Rattle.runner.specs.declared.Opened.the-variants.{Shut, Open}
 use Rattle.runner.specs.declared.Act.{Act}
 use Rattle.runner.specs.declared.Act.the-variants.{Refused, Opens, Exposes, Loops, Waits, Calls, Ends}
 use Rattle.runner.specs.Judge.{judged, judge}
+use Rattle.runner.proofs.Laws.{next-fits}
 use Rattle.survey.specs.declared.Item.{Item}
 use Rattle.survey.specs.declared.Item.the-variants.{Pause}
 use Rattle.survey.specs.declared.Closing.{Closing}
 use Rattle.survey.specs.declared.Closing.the-variants.{Terminates, CallsOn}
 use Rattle.survey.specs.declared.Walked.{Walked}
 use Rattle.survey.specs.declared.Walked.the-variants.{Fault, Closed}
-use Rattle.survey.specs.Items.{rasterSteps, rasterExposures, itemSteps, itemExposures}
-use Rattle.survey.specs.Walk.{Finding, passes, faults, inFront, between, scan, oneMore, since, paused, closed, walked, walk, rounds, checkOne}
+use Rattle.survey.specs.declared.Round.{Round}
+use Rattle.survey.specs.Items.{itemSteps, itemExposures}
+use Rattle.survey.specs.Walk.{Finding, passes, faults, inFront, between, scan, walked, walk, rounds, checkOne}
 use Rattle.survey.specs.Report.{walkedOf}
-use Rattle.survey.specs.Held.{Narrow, atop, afterLoop, afterWait, allRounds, AtMost, exposuresIn, Walks, LowCall}
+use Rattle.survey.specs.Held.{opened, exposedIn, waitedIn, loopedIn, exposuresIn, Fits, allRounds, AtMost, LowCall}
 use Rattle.survey.proofs.Names.{Low, low-one}
-use Rattle.survey.proofs.Totals.{Octets, narrow, between-most, Small, small-more, walk-small, one-small}
+use Rattle.survey.proofs.Totals.{Octets, part-octets, narrow, steps-most, exposures-most, Sized, sized, between-most, Small, small-more, walk-small, one-small}
 
 -- ── places
 -- a number that passed a place's range test is that place's
@@ -62,146 +65,195 @@ pub none-outside : (text : List ℕ) (p : ℕ) → length text ≤ 128 → 128 �
 unfolding sizeAt sizeOf
 none-outside text p short h = let l : length text ≤ p = omega arith in rw (none-past text p l)
 
--- ── the commands up to a target
-module _ (text : List ℕ) (left p t : ℕ) where
-  pub between-none : left ≡ 0 → 0 ≡ between text left p t
-  unfolding between
-  between-none e = rw e
+-- ── the commands up to a target, n of them counted so far
+module _ (text : List ℕ) (most t b : ℕ) where
+  pub between-start : (from : ℕ) → b ≡ between text most from t → 0 + between text (most - 0) from t ≡ b
+  between-start from e = let z : most - 0 ≡ most = omega arith in rw (z, zero-add) (sym e)
 
-  pub between-here : p ≡ t → 0 ≡ between text left p t
-  unfolding between
-  between-here e = by left
-    where
-      by : (f : ℕ) → 0 ≡ between text f p t
-      by zero = refl
-      by (suc f) = rw (eq-eqb p t e)
+  module _ (at n : ℕ) (e : n + between text (most - n) at t ≡ b) where
+    pub between-here : at ≡ t → n ≡ b
+    unfolding between
+    between-here h = let z = none (most - n) in omega arith
+      where
+        none : (f : ℕ) → between text f at t ≡ 0
+        none zero = refl
+        none (suc f) = rw (eq-eqb at t h)
 
-  pub between-on : (q r : ℕ) → (left ≡ 0 → ⊥) → (p ≡ t → ⊥) → q ≡ p + sizeAt text p → r ≡ between text (left - 1) q t → 1 + r ≡ between text left p t
-  unfolding between
-  between-on q r l d eq er = by left l er
-    where
-      by : (f : ℕ) → (f ≡ 0 → ⊥) → r ≡ between text (f - 1) q t → 1 + r ≡ between text f p t
-      by zero z e = absurd (z refl)
-      by (suc f) z e =
-          let g : suc f - 1 ≡ f = omega arith in
-          let s : 1 + r ≡ suc r = omega arith in
-          s ∙ rw (ne-eqb p t d, ← eq, e, g)
+    pub between-over : most ≤ n → n ≡ b
+    unfolding between
+    between-over h = let z : most - n ≡ 0 = omega arith in let k : n + 0 ≡ b = rw z at e in omega arith
 
-  pub between-low : (r : ℕ) → left ≤ 255 → (left ≡ 0 → ⊥) → (q : ℕ) → r ≡ between text (left - 1) q t → 1 + r ≤ 255
-  between-low r l z q e = let m = between-most text (left - 1) q t in omega arith
-
--- ── the raster that a loop back closes
-pub narrow-at : (text : List ℕ) (at : Place) (raster : RasterWords) → Octets text → raster ≡ rasterAt text (at .0) → Narrow raster
-narrow-at text at raster o e = rw e (narrow text (at .0) o)
-
-module _ (text : List ℕ) (t : ℕ) (held : Opened) (n : ℕ) (found : Walked) where
-  pub loop-open : (at : Place) (c a q before from k x : ℕ) (raster : RasterWords) (r : Walked)
-      → held ≡ Open at c → a ≡ at .0 → q ≡ a + sizeAt text a → before ≡ between text t q t → raster ≡ rasterAt text (at .0) → from ≡ n - before
-      → k ≡ rasterSteps raster before from → x ≡ rasterExposures raster → r ≡ atop k x found → r ≡ afterLoop text t held n found
-  loop-open at c a q before from k x raster r h ea eq eb er ef ek ex e = rw (h, e, ek, ex, ef, er, eb, eq, ea)
+    pub between-on : (q : ℕ) → n < most → (at ≡ t → ⊥) → q ≡ at + sizeAt text at → n + 1 + between text (most - (n + 1)) q t ≡ b
+    unfolding between
+    between-on q l d eq =
+        let f : most - n ≡ suc (most - (n + 1)) = omega arith in
+        let k : n + suc (between text (most - (n + 1)) (at + sizeAt text at) t) ≡ b = rw (f, ne-eqb at t d) at e in
+        rw eq (omega arith)
 
 -- ── a round, without its items
-module _ (text : List ℕ) where
-  walked-front : (i : Item) (found : Finding) → walkedOf (inFront text i found) ≡ atop (itemSteps text i) (itemExposures text i) (walkedOf found)
-  walked-front i (passes k x is p c) = refl
-  walked-front i (faults p code) = refl
+-- steps and exposures in front of what was found after them
+abbrev pub atop : ℕ → ℕ → Walked → Walked
+atop k x (Fault p code) = Fault p code
+atop k x (Closed p c steps exposures) = Closed p c (k + steps) (x + exposures)
 
-  walked-loop : (p t : ℕ) (held : Opened) (n : ℕ) (found : Finding) → walkedOf (closed text p t held n found) ≡ afterLoop text t held n (walkedOf found)
-  walked-loop p t Shut n found = refl
-  walked-loop p t (Open r c) n found = walked-front (scan text (r .0) t p n) found
+atop-none : (w : Walked) → atop 0 0 w ≡ w
+atop-none (Fault p code) = refl
+atop-none (Closed p c k x) = rw (zero-add k, zero-add x)
 
-  walked-wait : (p : ℕ) (held : Opened) (found : Finding) → walkedOf (paused text p held found) ≡ afterWait held (walkedOf found)
-  walked-wait p Shut found = walked-front (Pause p) found
-  walked-wait p (Open r c) found = refl
+atop-atop : (a b k x : ℕ) (w : Walked) → atop a b (atop k x w) ≡ atop (a + k) (b + x) w
+atop-atop a b k x (Fault p code) = refl
+atop-atop a b k x (Closed p c steps exposures) = rw (add-assoc a k steps, add-assoc b x exposures)
+
+walked-front : (text : List ℕ) (i : Item) (a b : ℕ) (found : Finding)
+    → atop a b (walkedOf (inFront text i found)) ≡ atop (a + itemSteps text i) (b + itemExposures text i) (walkedOf found)
+walked-front text i a b (passes k x is p c) = atop-atop a b (itemSteps text i) (itemExposures text i) (Closed p c k x)
+walked-front text i a b (faults p code) = refl
 
 most-of : (most : ℕ) (found : Finding) → Small most found → AtMost most (walkedOf found)
 most-of most (passes k x is p c) s = s
 most-of most (faults p code) s = tt
 
--- ── each way out of the walk
-module _ (E : Env) (text : List ℕ) (left p : ℕ) (held : Opened) (n : ℕ) where
+-- ── where the walk stands with so many commands left to look at
+-- what is found from here on, atop of the sums so far
+abbrev found : Env → List ℕ → ℕ → Round → Walked
+found E text left r = atop (r .steps) (r .exposures) (walkedOf (walk E text left (r .place) (r .held) (r .since)))
+
+-- what is found from place 4
+abbrev whole : Env → List ℕ → Walked
+whole E text = walkedOf (walk E text (length text) 4 Shut 0)
+
+-- no count passes its number's width
+pub record Within (left : ℕ) (r : Round) : Type 0 where
+  pub room : r .since + left ≤ 128
+  pub counted : exposuresIn (r .held) ≤ r .since
+  pub steps : r .steps + left * 2 ^ 37 ≤ 2 ^ 46
+  pub exposures : r .exposures + left * 2 ^ 37 ≤ 2 ^ 46
+
+pub record Going (E : Env) (text : List ℕ) (left : ℕ) (r : Round) : Type 0 where
+  pub same : found E text left r ≡ whole E text
+  pub within : Within left r
+
+abbrev round : ℕ → Opened → ℕ → ℕ → ℕ → Round
+round p o n k x = record { place = p; held = o; since = n; steps = k; exposures = x }
+
+pub going-start : (E : Env) (text : List ℕ) → length text ≤ 128 → Going E text (length text) (round 4 Shut 0 0 0)
+going-start E text short =
+    record {
+      same = atop-none (whole E text);
+      within = record { room = omega arith; counted = omega arith; steps = omega arith; exposures = omega arith };
+    }
+
+-- the round past the command of an act, where the walk goes on
+abbrev pub past : List ℕ → Place → Round → Act → Round
+past text at r (Refused code) = r
+past text at r Opens = opened at r
+past text at r (Exposes o) = exposedIn (r .held) r
+past text at r (Loops t) = loopedIn text t (r .held) r
+past text at r Waits = waitedIn (r .held) r
+past text at r (Calls n) = r
+past text at r Ends = r
+
+-- what an act comes to with f commands left after it
+abbrev pub comes : Env → List ℕ → ℕ → Place → Round → Act → Walked
+comes E text f at r (Refused code) = Fault (r .place) code
+comes E text f at r Opens = found E text f (past text at r Opens)
+comes E text f at r (Exposes o) = found E text f (past text at r (Exposes o))
+comes E text f at r (Loops t) = found E text f (past text at r (Loops t))
+comes E text f at r Waits = found E text f (past text at r Waits)
+comes E text f at r (Calls m) = Closed (r .place) (CallsOn m) (r .steps + 1) (r .exposures)
+comes E text f at r Ends = Closed (r .place) Terminates (r .steps + 1) (r .exposures)
+
+module _ (E : Env) (text : List ℕ) (f p n k x : ℕ) where
+  comes-so : (o : Opened) (a : Act) → Sized text p a
+      → atop k x (walkedOf (walked text (λ p′ o′ n′. walk E text f p′ o′ n′) p o n a)) ≡ comes E text f (placeAt p) (round p o n k x) a
+  unfolding walked
+  comes-so o (Refused code) s = refl
+  comes-so o Opens s = rw s
+  comes-so Shut (Exposes r) s = rw s
+  comes-so (Open r c) (Exposes r′) s = rw (s, add-one n)
+  comes-so Shut (Loops t) s = rw (s .0)
+  comes-so (Open r c) (Loops t) s = rw (s .0) (walked-front text (scan text (r .0) t p n) k x (walk E text f (p + 2) Shut 0))
+  comes-so Shut Waits s = rw s (walked-front text (Pause p) k x (walk E text f (p + 3) Shut 0) ∙ rw (add-zero x))
+  comes-so (Open r c) Waits s = rw (s, add-one n)
+  comes-so o (Calls m) s = rw (add-zero x)
+  comes-so o Ends s = rw (add-zero x)
+
+module _ (text : List ℕ) (f p n k x : ℕ) (oct : Octets text) where
+  within-past : (o : Opened) (a : Act) → Sized text p a → Within (suc f) (round p o n k x) → Within f (past text (placeAt p) (round p o n k x) a)
+  within-past o (Refused code) s w = record { room = omega arith; counted = w .counted; steps = omega arith; exposures = omega arith }
+  within-past o Opens s w = record { room = omega arith; counted = omega arith; steps = omega arith; exposures = omega arith }
+  within-past Shut (Exposes r) s w = record { room = omega arith; counted = omega arith; steps = omega arith; exposures = omega arith }
+  within-past (Open r c) (Exposes r′) s w = record { room = omega arith; counted = omega arith; steps = omega arith; exposures = omega arith }
+  within-past Shut (Loops t) s w = record { room = omega arith; counted = omega arith; steps = omega arith; exposures = omega arith }
+  within-past (Open r c) (Loops t) s w =
+      let b = between-most text t (r .0 + sizeAt text (r .0)) t in
+      let before = between text t (r .0 + sizeAt text (r .0)) t in
+      let v = narrow text (r .0) oct in
+      let y = steps-most (rasterAt text (r .0)) v before (n - before) (omega arith) (omega arith) in
+      let z = exposures-most (rasterAt text (r .0)) v in
+      record { room = omega arith; counted = omega arith; steps = omega arith; exposures = omega arith }
+  within-past Shut Waits s w = record { room = omega arith; counted = omega arith; steps = omega arith; exposures = omega arith }
+  within-past (Open r c) Waits s w = record { room = omega arith; counted = omega arith; steps = omega arith; exposures = omega arith }
+  within-past o (Calls m) s w = record { room = omega arith; counted = w .counted; steps = omega arith; exposures = omega arith }
+  within-past o Ends s w = record { room = omega arith; counted = w .counted; steps = omega arith; exposures = omega arith }
+
+-- ── each way out of the walk, and on
+module _ (E : Env) (text : List ℕ) (left : ℕ) (r : Round) (g : Going E text left r) where
   -- nothing is left to look at, or the number is no place of the text
-  pub walk-none : left ≡ 0 → Fault p 3 ≡ walkedOf (walk E text left p held n)
+  pub going-none : left ≡ 0 → Fault (r .place) 3 ≡ whole E text
   unfolding walk
-  walk-none e = rw e
+  going-none e = rw e at (g .same)
 
-  pub walk-outside : length text ≤ 128 → 128 ≤ p → Fault p 3 ≡ walkedOf (walk E text left p held n)
+  pub going-outside : length text ≤ 128 → 128 ≤ r .place → Fault (r .place) 3 ≡ whole E text
   unfolding walk walked judge judged
-  walk-outside short h = by left
+  going-outside short h = by left (g .same)
     where
-      past : length text ≤ p
-      past = omega arith
+      beyond : length text ≤ r .place
+      beyond = omega arith
 
-      by : (f : ℕ) → Fault p 3 ≡ walkedOf (walk E text f p held n)
-      by zero = refl
-      by (suc f) = rw (none-past text p past)
+      by : (f : ℕ) → found E text f r ≡ whole E text → Fault (r .place) 3 ≡ whole E text
+      by zero e = e
+      by (suc f) e = rw (none-past text (r .place) beyond) at e
 
-  -- the walk of what stands after the command at p
-  abbrev on : ℕ → Opened → ℕ → Finding
-  on q o m = walk E text (left - 1) q o m
+-- the judgement of the command at the round's place, with some left to look at
+pub record Turn (E : Env) (text : List ℕ) (left : ℕ) (r : Round) (at : Place) (a : Act) : Type 0 where
+  pub going : Going E text left r
+  pub octets : Octets text
+  pub short : length text ≤ 128
+  pub some : 0 < left
+  pub here : (r .place < 128) × (at ≡ placeAt (r .place))
+  pub judged : a ≡ judge E text (at .0) (r .held)
 
-  -- the act of the command at p, and the place past it
-  module _ (l : left ≡ 0 → ⊥) (at : Place) (ea : at ≡ placeAt p) (a : Act) (j : a ≡ judge E text (at .0) held) (q : ℕ) (eq : q ≡ p + sizeAt text p) where
-    turned : (x : Act) → a ≡ x → walkedOf (walk E text left p held n) ≡ walkedOf (walked text (λ p′ o′ n′. walk E text (left - 1) p′ o′ n′) p held n x)
+module _ {E : Env} {text : List ℕ} {left : ℕ} {r : Round} {at : Place} {a : Act} (t : Turn E text left r at a) where
+  pub going-fits : (size : ℕ) → size ≤ sizeAt text (r .place) → Fits size r
+  going-fits size b =
+      let h = next-fits text (r .place) (t .short) (omega arith) in
+      let w = t .going .within in
+      record { place = omega arith; since = omega arith; counted = w .counted; steps = omega arith; exposures = omega arith }
+
+  module _ (x : Act) (e : a ≡ x) where
+    is : judge E text (r .place) (r .held) ≡ x
+    is = rw (t .here .1) at (sym (t .judged) ∙ e)
+
+    pub told : Sized text (r .place) x
+    told = rw is at (sized E text (t .octets) (r .place) (r .held))
+
+    pub comes-whole : comes E text (left - 1) at r x ≡ whole E text
     unfolding walk
-    turned x e = rw (← e, j, ea) (by left l)
+    comes-whole =
+        rw (t .here .1) (sym (comes-so E text (left - 1) (r .place) (r .since) (r .steps) (r .exposures) (r .held) x told) ∙ by left (t .some) (t .going .same))
       where
-        by : (f : ℕ) → (f ≡ 0 → ⊥) → walkedOf (walk E text f p held n) ≡ walkedOf (walked text (λ p′ o′ n′. walk E text (f - 1) p′ o′ n′) p held n (judge E text p held))
-        by zero z = absurd (z refl)
-        by (suc f) z = let g : suc f - 1 ≡ f = omega arith in rw g
+        by : (f : ℕ) → 0 < f → found E text f r ≡ whole E text
+            → atop (r .steps) (r .exposures) (walkedOf (walked text (λ p′ o′ n′. walk E text (f - 1) p′ o′ n′) (r .place) (r .held) (r .since) x)) ≡ whole E text
+        by zero z h = absurd (omega arith)
+        by (suc f) z h = let d : suc f - 1 ≡ f = omega arith in rw (d, ← is) h
 
-    pub walk-refused : (code : ℕ) → a ≡ Refused code → Fault p code ≡ walkedOf (walk E text left p held n)
-    unfolding walked
-    walk-refused code e = sym (turned (Refused code) e)
-
-    pub walk-calls : (m : ℕ) → a ≡ Calls m → Closed p (CallsOn m) 1 0 ≡ walkedOf (walk E text left p held n)
-    unfolding walked
-    walk-calls m e = sym (turned (Calls m) e)
-
-    pub walk-ends : a ≡ Ends → Closed p Terminates 1 0 ≡ walkedOf (walk E text left p held n)
-    unfolding walked
-    walk-ends e = sym (turned Ends e)
-
-    module _ (r : Walked) where
-      pub walk-opens : a ≡ Opens → r ≡ walkedOf (on q (Open at 0) 0) → r ≡ walkedOf (walk E text left p held n)
-      unfolding walked
-      walk-opens e h = rw (turned Opens e, ← ea, ← eq) h
-
-      pub walk-exposes : (at′ : Place) (o : Opened) (m : ℕ) → a ≡ Exposes at′ → o ≡ oneMore held → m ≡ since held n → r ≡ walkedOf (on q o m) → r ≡ walkedOf (walk E text left p held n)
-      unfolding walked
-      walk-exposes at′ o m e eo em h = rw (turned (Exposes at′) e, ← eo, ← em, ← eq) h
-
-      pub walk-loops : (t : ℕ) (w : Walked) → a ≡ Loops t → w ≡ walkedOf (on q Shut 0) → r ≡ afterLoop text t held n w → r ≡ walkedOf (walk E text left p held n)
-      unfolding walked
-      walk-loops t w e h g = rw (turned (Loops t) e, walked-loop text p t held n, ← eq, ← h) g
-
-      pub walk-waits : (m : ℕ) (w : Walked) → a ≡ Waits → m ≡ since held n → w ≡ walkedOf (on q held m) → r ≡ afterWait held w → r ≡ walkedOf (walk E text left p held n)
-      unfolding walked
-      walk-waits m w e em h g = rw (turned Waits e, walked-wait text p held, ← em, ← eq, ← h) g
-
--- ── what the rest of the walk stands on
-module _ (text : List ℕ) (left : ℕ) (held : Opened) (n : ℕ) (w : Walks text left held n) (l : left ≡ 0 → ⊥) where
-  pub walks-shut : Walks text (left - 1) Shut 0
-  walks-shut = record { short = w .short; room = omega (arith, w .room); counted = omega arith }
-
-  pub walks-open : (at : Place) → Walks text (left - 1) (Open at 0) 0
-  walks-open at = record { short = w .short; room = omega (arith, w .room); counted = omega arith }
-
-  pub walks-on : (o : Opened) (m : ℕ) → (exposuresIn o ≤ m) × (m ≤ suc n) → Walks text (left - 1) o m
-  walks-on o m h = record { short = w .short; room = omega (arith, w .room); counted = h .0 }
-
-pub exposed-on : (held o : Opened) (n m : ℕ) → exposuresIn held ≤ n → o ≡ oneMore held → m ≡ since held n → (exposuresIn o ≤ m) × (m ≤ suc n)
-exposed-on Shut o n m h eo em = rw (eo, em) (omega arith, omega arith)
-exposed-on (Open r c) o n m h eo em = rw (eo, em) (omega arith, omega arith)
-
-pub waited-on : (held : Opened) (n m : ℕ) → exposuresIn held ≤ n → m ≡ since held n → (exposuresIn held ≤ m) × (m ≤ suc n)
-waited-on Shut n m h em = rw em (omega arith, omega arith)
-waited-on (Open r c) n m h em = rw em (omega arith, omega arith)
-
-pub walk-most : (E : Env) (text : List ℕ) (f p : ℕ) (o : Opened) (n most : ℕ) (w : Walked) → Octets text → n + f ≤ 511 → f * 2 ^ 37 ≤ most
-    → w ≡ walkedOf (walk E text f p o n) → AtMost most w
-walk-most E text f p o n most w oct room l e =
-    rw e (most-of most (walk E text f p o n) (small-more l (walk E text f p o n) (walk-small E text oct f p o n room)))
+    pub going-on : (r′ : Round) → r′ ≡ past text at r x → comes E text (left - 1) at r x ≡ found E text (left - 1) (past text at r x) → Going E text (left - 1) r′
+    going-on r′ er c =
+        let d : suc (left - 1) ≡ left = omega arith in
+        let w : Within (suc (left - 1)) r = rw d (t .going .within) in
+        let v = within-past text (left - 1) (r .place) (r .since) (r .steps) (r .exposures) (t .octets) (r .held) x told w in
+        rw er record { same = sym c ∙ comes-whole; within = rw (t .here .1) v }
 
 -- ── one sequence, taken alone
 abbrev LowWalked : Walked → Type 0
@@ -223,14 +275,27 @@ module _ (E : Env) where
       by false = refl
   walked-rounds q (faults p code) = refl
 
-  module _ (text : List ℕ) (h : Header) (eh : h ≡ headerOf text) where
-    pub one-unfit : (code place : ℕ) → h ≡ HeaderFault code place → Fault place code ≡ walkedOf (checkOne E text)
-    unfolding checkOne
-    one-unfit code place e = rw (← eh, e)
+  -- its text is cut to an entry's size
+  module _ (full text : List ℕ) (cut : text ≡ take 128 full) where
+    pub cut-short : length text ≤ 128
+    cut-short = rw cut (simp length-take (omega arith))
 
-    pub one-rounds : (q : ℕ) (w r : Walked) → h ≡ Repeats q → w ≡ walkedOf (walk E text (length text) 4 Shut 0) → r ≡ allRounds (E .last) q w → r ≡ walkedOf (checkOne E text)
-    unfolding checkOne
-    one-rounds q w r e ew er = rw (← eh, e, walked-rounds q, ← ew) er
+    pub round-most : Octets full → (w : Walked) → w ≡ walkedOf (walk E text (length text) 4 Shut 0) → AtMost (2 ^ 46) w
+    round-most oct w e =
+        let o : Octets text = rw cut (part-octets full 0 128 oct) in
+        let l : length text * 2 ^ 37 ≤ 2 ^ 46 = omega (arith, cut-short) in
+        let s = walk-small E text o (length text) 4 Shut 0 (omega (arith, cut-short)) in
+        rw e (most-of (2 ^ 46) (walk E text (length text) 4 Shut 0) (small-more l (walk E text (length text) 4 Shut 0) s))
+
+    module _ (h : Header) (eh : h ≡ headerOf text) where
+      pub one-unfit : (code place : ℕ) → h ≡ HeaderFault code place → Fault place code ≡ walkedOf (checkOne E (take 128 full))
+      unfolding checkOne
+      one-unfit code place e = rw (← cut, ← eh, e)
+
+      pub one-rounds : (q : ℕ) (w r : Walked) → h ≡ Repeats q → w ≡ walkedOf (walk E text (length text) 4 Shut 0) → r ≡ allRounds (E .last) q w
+          → r ≡ walkedOf (checkOne E (take 128 full))
+      unfolding checkOne
+      one-rounds q w r e ew er = rw (← cut, ← eh, e, walked-rounds q, ← ew) er
 
   -- its totals and its call are no greater than they may be
   module _ (text : List ℕ) (w : Walked) (ew : w ≡ walkedOf (checkOne E text)) where

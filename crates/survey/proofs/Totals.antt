@@ -3,6 +3,7 @@
 use Prim.Native.Nat.{ℕ, zero, suc, _+_, _*_, _-_, _≤_, _<_, _^_, zero-le}
 use native.Mathlib.Nat.{mul-le-mul, le-refl, suc-mul}
 use native.Mathlib.Omega.{arith}
+use mathlib.Core.Path.{_≡_, refl}
 use mathlib.Core.List.{List, [], _∷_}
 use lib.Dec.{ltb, eqb}
 use lib.ListN.{length, take, drop, length-take, List·getD-eq-default}
@@ -17,7 +18,7 @@ use Rattle.sequence.specs.declared.Command.the-variants.{RunRaster, Expose, Loo
 use Rattle.sequence.specs.declared.Header.{Header}
 use Rattle.sequence.specs.declared.Header.the-variants.{Repeats, Fault}
 use Rattle.sequence.specs.declared.RasterWords.{RasterWords}
-use Rattle.sequence.specs.Text.{commandAt, headerRows, headerOf, sizeAt}
+use Rattle.sequence.specs.Text.{commandAt, headerRows, headerOf, sizeOf, sizeAt}
 use Rattle.sequence.specs.Raster.{rasterAt}
 use Rattle.sequence.specs.Starts.{among}
 use Rattle.sequence.specs.Env.{Env, envOf, textOf}
@@ -35,7 +36,6 @@ use Rattle.survey.specs.declared.Ending.the-variants.{Unlisted, Finishes
 use Rattle.survey.specs.Items.{rasterSteps, rasterExposures, itemSteps, itemExposures}
 use Rattle.survey.specs.Walk.{Finding, passes, faults, inFront, between, scan, closed, paused, oneMore, since, walked, walk, rounds, checkedBy, checkOne}
 use Rattle.survey.specs.Chain.{Told, total, onward, follow, chainOf, checkOf}
-use Rattle.survey.specs.Held.{Narrow}
 use Rattle.survey.proofs.Names.{choice, of-check}
 
 -- ── bytes
@@ -50,6 +50,12 @@ part-octets s at size o k = near (decLt k size)
     near (no l) = rw (List·getD-eq-default (take size (drop at s)) 0 {n = k} (simp length-take (omega arith))) (omega arith)
 
 -- ── one raster
+-- its counts are no wider than their fields
+pub record Narrow (raster : RasterWords) : Type 0 where
+  pub loops : raster .loops ≤ 65535
+  pub exposures : raster .exposures ≤ 15
+  pub repeats : raster .repeats ≤ 4095
+
 pub narrow : (text : List ℕ) (p : ℕ) → Octets text → Narrow (rasterAt text p)
 unfolding rasterAt
 narrow text p o =
@@ -100,36 +106,36 @@ unfolding between
 between-most text zero p t = zero-le
 between-most text (suc f) p t = choice (λ (k : ℕ). k ≤ suc f) (eqb p t) _ _ (λ _. zero-le) (λ _. let h = between-most text f (p + sizeAt text p) t in omega arith)
 
--- a loop back's target is a byte
-abbrev Near : Act → Type 0
-Near (Refused code) = Unit {0}
-Near Opens = Unit {0}
-Near (Exposes r) = Unit {0}
-Near (Loops t) = t ≤ 255
-Near Waits = Unit {0}
-Near (Calls n) = Unit {0}
-Near Ends = Unit {0}
+-- what a judgement tells of the command at its place: its size, and that a loop back's target is a byte
+abbrev pub Sized : List ℕ → ℕ → Act → Type 0
+Sized text p (Refused code) = Unit {0}
+Sized text p Opens = sizeAt text p ≡ 23
+Sized text p (Exposes r) = sizeAt text p ≡ 3
+Sized text p (Loops t) = (sizeAt text p ≡ 2) × (t ≤ 255)
+Sized text p Waits = sizeAt text p ≡ 3
+Sized text p (Calls n) = sizeAt text p ≡ 2
+Sized text p Ends = sizeAt text p ≡ 1
 
-near-unless : (code : ℕ) (a : Act) → Near a → Near (unless code a)
-near-unless code a n = choice Near (eqb code 0) a (Refused code) (λ _. n) (λ _. tt)
+sized-unless : (text : List ℕ) (p code : ℕ) (a : Act) → Sized text p a → Sized text p (unless code a)
+sized-unless text p code a s = choice (Sized text p) (eqb code 0) a (Refused code) (λ _. s) (λ _. tt)
 
 module _ (E : Env) (text : List ℕ) (oct : Octets text) where
-  near-judged : (p : ℕ) (o : Opened) (k : Command) → Bytes text p k → Near (judged E text p o k)
-  unfolding judged
-  near-judged p o RunRaster b = near-unless (firstCode (runRows E text p o)) Opens tt
-  near-judged p Shut (Expose time) b = near-unless (firstCode (exposeRows text time Shut)) (exposesIn Shut) tt
-  near-judged p (Open r c) (Expose time) b = near-unless (firstCode (exposeRows text time (Open r c))) (exposesIn (Open r c)) tt
-  near-judged p o (LoopBack t) b = near-unless (firstCode (loopRows text p t o)) (Loops t) (omega (arith, b .1, oct (p + 1)))
-  near-judged p o (CallSequence n) b = near-unless (firstCode (closeRows text p o)) (Calls n) tt
-  near-judged p o Terminate b = near-unless (firstCode (closeRows text p o)) Ends tt
-  near-judged p o (Delay time) b = tt
-  near-judged p o Nothing b = tt
-  near-judged p o Unknown b = tt
-  near-judged p o Unfit b = tt
+  sized-judged : (p : ℕ) (o : Opened) (k : Command) → commandAt text p ≡ k → Bytes text p k → Sized text p (judged E text p o k)
+  unfolding judged sizeAt sizeOf
+  sized-judged p o RunRaster e b = sized-unless text p (firstCode (runRows E text p o)) Opens (rw e)
+  sized-judged p Shut (Expose time) e b = sized-unless text p (firstCode (exposeRows text time Shut)) (exposesIn Shut) tt
+  sized-judged p (Open r c) (Expose time) e b = sized-unless text p (firstCode (exposeRows text time (Open r c))) (exposesIn (Open r c)) (rw e)
+  sized-judged p o (LoopBack t) e b = sized-unless text p (firstCode (loopRows text p t o)) (Loops t) (rw e, omega (arith, b .1, oct (p + 1)))
+  sized-judged p o (CallSequence n) e b = sized-unless text p (firstCode (closeRows text p o)) (Calls n) (rw e)
+  sized-judged p o Terminate e b = sized-unless text p (firstCode (closeRows text p o)) Ends (rw e)
+  sized-judged p o (Delay time) e b = rw e
+  sized-judged p o Nothing e b = tt
+  sized-judged p o Unknown e b = tt
+  sized-judged p o Unfit e b = tt
 
-  near-judge : (p : ℕ) (o : Opened) → Near (judge E text p o)
+  pub sized : (p : ℕ) (o : Opened) → Sized text p (judge E text p o)
   unfolding judge
-  near-judge p o = near-judged p o (commandAt text p) (command-bytes text p)
+  sized p o = sized-judged p o (commandAt text p) refl (command-bytes text p)
 
   since-most : (o : Opened) (n : ℕ) → since o n ≤ suc n
   since-most Shut n = zero-le
@@ -157,12 +163,12 @@ module _ (E : Env) (text : List ℕ) (oct : Octets text) where
     on : (p : ℕ) (o : Opened) (m : ℕ) → m + f ≤ 511 → Small (suc f * 2 ^ 37) (go p o m)
     on p o m l = more (go p o m) (ih p o m l)
 
-    small-walked : (p : ℕ) (o : Opened) (a : Act) → Near a → Small (suc f * 2 ^ 37) (walked text go p o n a)
+    small-walked : (p : ℕ) (o : Opened) (a : Act) → Sized text p a → Small (suc f * 2 ^ 37) (walked text go p o n a)
     unfolding walked
     small-walked p o (Refused code) l = tt
     small-walked p o Opens l = on (p + sizeAt text p) (Open (placeAt p) 0) 0 (omega arith)
     small-walked p o (Exposes r) l = on (p + sizeAt text p) (oneMore o) (since o n) (let s = since-most o n in omega arith)
-    small-walked p o (Loops t) l = small-closed p t o (go (p + sizeAt text p) Shut 0) l (ih _ Shut 0 (omega arith))
+    small-walked p o (Loops t) l = small-closed p t o (go (p + sizeAt text p) Shut 0) (l .1) (ih _ Shut 0 (omega arith))
     small-walked p o Waits l =
         small-paused p o (go (p + sizeAt text p) o (since o n)) (ih _ o (since o n) (let s = since-most o n in omega arith))
     small-walked p o (Calls m) l = (omega arith, zero-le)
@@ -171,7 +177,7 @@ module _ (E : Env) (text : List ℕ) (oct : Octets text) where
   pub walk-small : (f p : ℕ) (o : Opened) (n : ℕ) → n + f ≤ 511 → Small (f * 2 ^ 37) (walk E text f p o n)
   unfolding walk
   walk-small zero p o n room = tt
-  walk-small (suc f) p o n room = small-walked f n room (λ q u m. walk E text f q u m) (walk-small f) p o (judge E text p o) (near-judge p o)
+  walk-small (suc f) p o n room = small-walked f n room (λ q u m. walk E text f q u m) (walk-small f) p o (judge E text p o) (sized p o)
 
 -- ── all rounds of a sequence
 pub rounds-most : (q : ℕ) → q ≤ 255 → (k : ℕ) → k ≤ 2 ^ 46 → 1 + q * k ≤ 2 ^ 54

@@ -1,55 +1,66 @@
 -- What the code holds on its way: one sequence's findings without items, and the chain in arrays of numbers and marks.
-use Prim.Native.Nat.{ℕ, suc, _+_, _*_, _-_, _≤_, _<_, _^_}
+use Prim.Native.Nat.{ℕ, suc, _+_, _*_, _≤_, _<_, _^_}
 use mathlib.Core.Path.{_≡_}
 use mathlib.Core.Bool.{Bool, true, false, cond}
 use mathlib.Core.List.{List, [], _∷_, _++_, reverse}
 use lib.Dec.{ltb}
-use lib.ListN.{length, getD, set, replicate}
-use Rattle.sequence.specs.declared.RasterWords.{RasterWords}
-use Rattle.sequence.specs.Text.{sizeAt}
+use lib.ListN.{length, getD, replicate}
+use Rattle.memory.specs.declared.Place.{Place}
 use Rattle.sequence.specs.Starts.{among}
-use Rattle.sequence.specs.Raster.{rasterAt}
 use Rattle.runner.specs.declared.Opened.{Opened}
 use Rattle.runner.specs.declared.Opened.the-variants.{Shut, Open}
+use Rattle.survey.specs.declared.Item.{Item}
 use Rattle.survey.specs.declared.Closing.{Closing}
 use Rattle.survey.specs.declared.Closing.the-variants.{Terminates, CallsOn}
 use Rattle.survey.specs.declared.Walked.{Walked}
 use Rattle.survey.specs.declared.Walked.the-variants.{Fault, Closed}
-use Rattle.survey.specs.declared.Ending.{Ending}
 use Rattle.survey.specs.declared.Ending.the-variants.{Finishes}
+use Rattle.survey.specs.declared.Round.{Round}
 use Rattle.survey.specs.declared.Chain.{Chain}
+use Rattle.survey.specs.declared.Checked.{Checked}
 use Rattle.survey.specs.declared.Report.{Report}
-use Rattle.survey.specs.Items.{rasterSteps, rasterExposures}
-use Rattle.survey.specs.Walk.{between}
+use Rattle.survey.specs.Items.{itemSteps, itemExposures}
+use Rattle.survey.specs.Walk.{scan}
 use Rattle.survey.specs.Chain.{Told, told, total}
 use Rattle.survey.specs.Report.{padded}
 
--- ── one sequence
--- a raster's counts are no wider than their fields
-pub record Narrow (raster : RasterWords) : Type 0 where
-  pub loops : raster .loops ≤ 65535
-  pub exposures : raster .exposures ≤ 15
-  pub repeats : raster .repeats ≤ 4095
+-- ── a round
+-- past a run raster at this place: its raster is open, with no exposure and no command since
+abbrev pub opened : Place → Round → Round
+opened at r = record { place = r .place + 23; held = Open at 0; since = 0; steps = r .steps; exposures = r .exposures }
 
--- steps and exposures in front of what was found after them
-abbrev pub atop : ℕ → ℕ → Walked → Walked
-atop k x (Fault p code) = Fault p code
-atop k x (Closed p c steps exposures) = Closed p c (k + steps) (x + exposures)
+-- past an exposure: one more in the open raster's set
+abbrev pub exposedIn : Opened → Round → Round
+exposedIn Shut r = record { place = r .place + 3; held = Shut; since = 0; steps = r .steps; exposures = r .exposures }
+exposedIn (Open at c) r = record { place = r .place + 3; held = Open at (c + 1); since = r .since + 1; steps = r .steps; exposures = r .exposures }
 
--- what was found after a loop back to t, n commands after the run raster, with the raster in front
-abbrev pub scannedBy : List ℕ → ℕ → ℕ → ℕ → Walked → Walked
-scannedBy text r n before found = atop (rasterSteps (rasterAt text r) before (n - before)) (rasterExposures (rasterAt text r)) found
+-- past a delay: a step of its own outside rasters
+abbrev pub waitedIn : Opened → Round → Round
+waitedIn Shut r = record { place = r .place + 3; held = Shut; since = 0; steps = r .steps + 1; exposures = r .exposures }
+waitedIn (Open at c) r = record { place = r .place + 3; held = Open at c; since = r .since + 1; steps = r .steps; exposures = r .exposures }
 
-abbrev pub afterLoop : List ℕ → ℕ → Opened → ℕ → Walked → Walked
-afterLoop text t Shut n found = found
-afterLoop text t (Open r c) n found = scannedBy text (r .0) n (between text t (r .0 + sizeAt text (r .0)) t) found
+-- past a loop back to t: the open raster is an item of the round
+abbrev pub scannedIn : List ℕ → Item → Round → Round
+scannedIn text i r =
+    record { place = r .place + 2; held = Shut; since = 0; steps = r .steps + itemSteps text i; exposures = r .exposures + itemExposures text i }
 
--- what was found after a delay, which is a step of its own outside rasters
-abbrev pub afterWait : Opened → Walked → Walked
-afterWait Shut found = atop 1 0 found
-afterWait (Open r c) found = found
+abbrev pub loopedIn : List ℕ → ℕ → Opened → Round → Round
+loopedIn text t Shut r = record { place = r .place + 2; held = Shut; since = 0; steps = r .steps; exposures = r .exposures }
+loopedIn text t (Open at c) r = scannedIn text (scan text (at .0) t (r .place) (r .since)) r
 
--- all rounds
+abbrev pub exposuresIn : Opened → ℕ
+exposuresIn Shut = 0
+exposuresIn (Open r c) = c
+
+-- a command of this size more, and no count passes its number's width
+pub record Fits (size : ℕ) (r : Round) : Type 0 where
+  pub place : r .place + size < 256
+  pub since : r .since < 255
+  pub counted : exposuresIn (r .held) ≤ r .since
+  pub steps : r .steps ≤ 2 ^ 62
+  pub exposures : r .exposures ≤ 2 ^ 62
+
+-- ── all rounds
 abbrev pub allRounds : ℕ → ℕ → Walked → Walked
 allRounds last q (Fault p code) = Fault p code
 allRounds last q (Closed p Terminates steps exposures) = Closed p Terminates (1 + q * steps) (q * exposures)
@@ -59,16 +70,6 @@ allRounds last q (Closed p (CallsOn m) steps exposures) = cond (ltb last m) (Fau
 abbrev pub AtMost : ℕ → Walked → Type 0
 AtMost most (Fault p code) = Unit {0}
 AtMost most (Closed p c steps exposures) = (steps ≤ most) × (exposures ≤ most)
-
-abbrev pub exposuresIn : Opened → ℕ
-exposuresIn Shut = 0
-exposuresIn (Open r c) = c
-
--- what the walk of an entry's text stands on: no count passes a byte
-pub record Walks (text : List ℕ) (left : ℕ) (held : Opened) (n : ℕ) : Type 0 where
-  pub short : length text ≤ 128
-  pub room : n + left ≤ 255
-  pub counted : exposuresIn held ≤ n
 
 -- ── the chain
 -- how many marks are not set
@@ -111,26 +112,16 @@ abbrev pub ahead : (ℕ → Told) → Closing → Told
 ahead go Terminates = told [] Finishes 0 0
 ahead go (CallsOn m) = go m
 
-unfoldable pub emptyChain : Chain
+abbrev pub emptyChain : Chain
 emptyChain = record { listed = replicate 128 0; marks = replicate 128 false; count = 0; steps = 0; exposures = 0 }
 
-unfoldable pub entered : Chain → ℕ → Chain
-entered chain n =
+-- what is reported of a chain and its ending
+unfoldable pub reported : Checked → Report
+reported c =
     record {
-      listed = set (chain .listed) (chain .count) n;
-      marks = set (chain .marks) n true;
-      count = chain .count + 1;
-      steps = chain .steps;
-      exposures = chain .exposures;
+      ending = c .ending;
+      listed = c .chain .listed;
+      count = c .chain .count;
+      steps = total (c .ending) (c .chain .steps) 0;
+      exposures = total (c .ending) (c .chain .exposures) 0;
     }
-
-unfoldable pub added : Chain → ℕ → ℕ → Chain
-added chain k x =
-    record { listed = chain .listed; marks = chain .marks; count = chain .count; steps = chain .steps + k; exposures = chain .exposures + x }
-
--- the chain's report, with its totals and without
-unfoldable pub ended : Chain → Ending → Report
-ended chain e = record { ending = e; listed = chain .listed; count = chain .count; steps = chain .steps; exposures = chain .exposures }
-
-unfoldable pub faulted : Chain → Ending → Report
-faulted chain e = record { ending = e; listed = chain .listed; count = chain .count; steps = 0; exposures = 0 }

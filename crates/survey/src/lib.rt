@@ -1,22 +1,21 @@
 // The table check: it reads and does not run.
 ghost use mathlib.Core.Path.{_≡_};
 ghost use Prim.Native.Nat.{ℕ, _+_, _-_, _≤_, _<_, _^_};
-ghost use mathlib.Core.Bool.{false};
 ghost use mathlib.Core.List.{List};
-ghost use lib.ListN.{length, getD};
+ghost use lib.ListN.{length, take};
 ghost use Rattle.sequence.specs.Text.{sizeAt};
+ghost use Rattle.sequence.specs.Raster.{rasterAt};
 ghost use Rattle.sequence.specs.Env.{envOf};
 ghost use Rattle.survey.specs.Items.{rasterSteps, rasterExposures};
-ghost use Rattle.survey.specs.Walk.{between, oneMore, since, walk, checkOne};
-ghost use Rattle.survey.specs.Chain.{follow, checkOf};
+ghost use Rattle.survey.specs.Walk.{between, walk, checkOne};
+ghost use Rattle.survey.specs.Chain.{total, follow, checkOf};
 ghost use Rattle.survey.specs.Report.{reportOf, walkedOf};
-ghost use Rattle.survey.specs.Held.{Narrow, atop, afterLoop, afterWait, allRounds, AtMost, exposuresIn, Walks, unmarked, Kept, Free, Is, LowCall, joined, ahead, emptyChain, entered, added, ended, faulted};
+ghost use Rattle.survey.specs.Held.{Fits, opened, exposedIn, waitedIn, loopedIn, allRounds, AtMost, unmarked, Kept, Free, Is, LowCall, joined, ahead, emptyChain, reported};
 use memory::Place;
 use memory::Placed;
 use runner::Act;
 use runner::Opened;
 use sequence::Header;
-use sequence::RasterWords;
 
 // What a round of a sequence is made of: a delay outside rasters, by its place; or a raster, by its place, its loop back's target,
 // the loop back's place, the commands before the target and those from it up to the loop back.
@@ -63,6 +62,22 @@ pub struct Chain {
     pub exposures: u64,
 }
 
+// What one round of a text has come to so far: the next command's place, the open raster, the commands since its run raster, and the
+// steps and exposures.
+struct Round {
+    place: u8,
+    held: Opened,
+    since: u8,
+    steps: u64,
+    exposures: u64,
+}
+
+// A chain and how it ends.
+struct Checked {
+    chain: Chain,
+    ending: Ending,
+}
+
 // What the check answers.
 pub struct Report {
     pub ending: Ending,
@@ -83,18 +98,21 @@ fn past(text: &[u8], number: u8) -> u8
     }
 }
 
-// How many commands stand from a place up to another; at most `left` are counted.
-fn between(text: &[u8], left: u8, at: u8, t: u8) -> u8
+// How many commands stand from a place up to another; at most `most` are counted.
+fn between(text: &[u8], most: u8, from: u8, t: u8) -> u8
     requires { ⌜ length (now text) ≤ 128 ⌝ }
-    ensures { λ r. ⌜ r ≡ between (now (text .entry)) left at t ⌝ }
+    ensures { λ r. ⌜ r ≡ between (now (text .entry)) most from t ⌝ }
 {
-    if left == 0 {
-        return 0;
+    let mut at = from;
+    let mut n: u8 = 0;
+    while n < most {
+        if at == t {
+            return n;
+        }
+        at = past(text, at);
+        n += 1;
     }
-    if at == t {
-        return 0;
-    }
-    1 + between(text, left - 1, past(text, at), t)
+    n
 }
 
 // What is left of a count after another is taken from it, 0 where that is more.
@@ -104,140 +122,155 @@ fn minus(count: u8, other: u8) -> u8
     if other < count { count - other } else { 0 }
 }
 
-// The steps of all repeats of a raster, from its commands before the target and from it on.
-fn raster_steps(raster: RasterWords, before: u8, from: u8) -> u64
-    requires { ⌜ Narrow raster ⌝ }
-    ensures { λ r. ⌜ (r ≡ rasterSteps raster before from) × (r ≤ 2 ^ 37) ⌝ }
+// The steps of all repeats of the raster at a place, from its commands before the target and from it on.
+fn raster_steps(text: &[u8], at: Place, before: u8, from: u8) -> u64
+    ensures { λ r. ⌜ (r ≡ rasterSteps (rasterAt (now (text .entry)) (at .0)) before from) × (r ≤ 2 ^ 37) ⌝ }
 {
-    let pass = raster.loops as u64 * (from as u64 + 1);
-    raster.repeats as u64 * (1 + before as u64 + pass)
+    let pass = sequence::loops_at(text, at) as u64 * (from as u64 + 1);
+    sequence::repeats_at(text, at) as u64 * (1 + before as u64 + pass)
 }
 
-// The exposures of all repeats of a raster.
-fn raster_exposures(raster: RasterWords) -> u64
-    requires { ⌜ Narrow raster ⌝ }
-    ensures { λ r. ⌜ (r ≡ rasterExposures raster) × (r ≤ 2 ^ 37) ⌝ }
+// The exposures of all repeats of the raster at a place.
+fn raster_exposures(text: &[u8], at: Place) -> u64
+    ensures { λ r. ⌜ (r ≡ rasterExposures (rasterAt (now (text .entry)) (at .0))) × (r ≤ 2 ^ 37) ⌝ }
 {
-    raster.loops as u64 * raster.exposures as u64 * raster.repeats as u64
+    sequence::loops_at(text, at) as u64
+        * sequence::exposures_at(text, at) as u64
+        * sequence::repeats_at(text, at) as u64
 }
 
-// Steps and exposures in front of what was found after them.
-fn atop(steps: u64, exposures: u64, found: Walked) -> Walked
-    requires { ⌜ (steps ≤ 2 ^ 62) × (exposures ≤ 2 ^ 62) × AtMost (2 ^ 62) found ⌝ }
-    ensures { λ r. ⌜ r ≡ atop steps exposures found ⌝ }
-{
-    match found {
-        Walked::Fault { place, code } => Walked::Fault { place, code },
-        Walked::Closed {
-            place,
-            closing,
-            steps: more,
-            exposures: others,
-        } => {
-            Walked::Closed {
+impl Round {
+    // The round past a run raster at this place.
+    fn opens(self, at: Place) -> Round
+        requires { ⌜ Fits 23 self ⌝ }
+        ensures { λ r. ⌜ r ≡ opened at self ⌝ }
+    {
+        Round {
+            place: self.place + 23,
+            held: Opened::Open(at, 0),
+            since: 0,
+            ..self
+        }
+    }
+
+    // The round past an exposure, one more in the open raster's set.
+    fn exposes(self) -> Round
+        requires { ⌜ Fits 3 self ⌝ }
+        ensures { λ r. ⌜ r ≡ exposedIn (self .held) self ⌝ }
+    {
+        let held = self.held;
+        let place = self.place + 3;
+        match held {
+            Opened::Shut => Round {
                 place,
-                closing,
-                steps: steps + more,
-                exposures: exposures + others,
+                since: 0,
+                ..self
+            },
+            Opened::Open(at, count) => Round {
+                place,
+                held: Opened::Open(at, count + 1),
+                since: self.since + 1,
+                ..self
+            },
+        }
+    }
+
+    // The round past a delay, a step of its own where no raster is open.
+    fn waits(self) -> Round
+        requires { ⌜ Fits 3 self ⌝ }
+        ensures { λ r. ⌜ r ≡ waitedIn (self .held) self ⌝ }
+    {
+        let held = self.held;
+        let place = self.place + 3;
+        match held {
+            Opened::Shut => Round {
+                place,
+                since: 0,
+                steps: self.steps + 1,
+                ..self
+            },
+            Opened::Open(_, _) => Round {
+                place,
+                since: self.since + 1,
+                ..self
+            },
+        }
+    }
+
+    // The round past a loop back to this place, with the raster that it closes.
+    fn loops(self, text: &[u8], t: u8) -> Round
+        requires { ⌜ Fits 2 self × (length (now text) ≤ 128) ⌝ }
+        ensures { λ r. ⌜ r ≡ loopedIn (now (text .entry)) t (self .held) self ⌝ }
+    {
+        let held = self.held;
+        let place = self.place + 2;
+        match held {
+            Opened::Shut => Round {
+                place,
+                since: 0,
+                ..self
+            },
+            Opened::Open(at, _) => {
+                let before = between(text, t, past(text, at.number()), t);
+                let from = minus(self.since, before);
+                Round {
+                    place,
+                    held: Opened::Shut,
+                    since: 0,
+                    steps: self.steps + raster_steps(text, at, before, from),
+                    exposures: self.exposures + raster_exposures(text, at),
+                }
             }
         }
     }
-}
 
-// What was found after a loop back, with the raster that it closes in front.
-fn after_loop(text: &[u8], t: u8, held: Opened, n: u8, found: Walked) -> Walked
-    requires { ⌜ (length (now text) ≤ 128) × AtMost (2 ^ 62) found ⌝ }
-    ensures { λ r. ⌜ r ≡ afterLoop (now (text .entry)) t held n found ⌝ }
-{
-    match held {
-        Opened::Shut => found,
-        Opened::Open(at, _) => {
-            let before = between(text, t, past(text, at.number()), t);
-            let raster = sequence::raster_at(text, at);
-            atop(
-                raster_steps(raster, before, minus(n, before)),
-                raster_exposures(raster),
-                found,
-            )
+    // The round closed by the command at its place, which is a step too.
+    fn closes(self, closing: Closing) -> Walked
+        requires { ⌜ self .steps ≤ 2 ^ 62 ⌝ }
+        ensures { λ r. ⌜ r ≡ Walked.Closed (self .place) closing (self .steps + 1) (self .exposures) ⌝ }
+    {
+        Walked::Closed {
+            place: self.place,
+            closing,
+            steps: self.steps + 1,
+            exposures: self.exposures,
         }
     }
 }
 
-// What was found after a delay, with the delay in front where no raster is open.
-fn after_wait(held: Opened, found: Walked) -> Walked
-    requires { ⌜ AtMost (2 ^ 62) found ⌝ }
-    ensures { λ r. ⌜ r ≡ afterWait held found ⌝ }
+// One round of a text: its commands in order from place 4 on, at most as many as it has bytes.
+fn walk(text: &[u8], lists: &[u8]) -> Walked
+    requires { ⌜ length (now text) ≤ 128 ⌝ }
+    ensures { λ r. ⌜ r ≡ walkedOf (walk (envOf (now (lists .entry))) (now (text .entry)) (length (now (text .entry))) 4 Opened.Shut 0) ⌝ }
 {
-    match held {
-        Opened::Shut => atop(1, 0, found),
-        Opened::Open(_, _) => found,
-    }
-}
-
-// The open raster after one exposure more.
-fn one_more(held: Opened) -> Opened
-    requires { ⌜ exposuresIn held < 255 ⌝ }
-    ensures { λ r. ⌜ r ≡ oneMore held ⌝ }
-{
-    match held {
-        Opened::Shut => Opened::Shut,
-        Opened::Open(at, count) => Opened::Open(at, count + 1),
-    }
-}
-
-// The commands since the open raster's run raster, after one more.
-fn since(held: Opened, n: u8) -> u8
-    requires { ⌜ n < 255 ⌝ }
-    ensures { λ r. ⌜ r ≡ since held n ⌝ }
-{
-    match held {
-        Opened::Shut => 0,
-        Opened::Open(_, _) => n + 1,
-    }
-}
-
-// A round that closes with the command at a place: that step alone.
-fn closed(place: u8, closing: Closing) -> Walked
-    ensures { λ r. ⌜ r ≡ Walked.Closed place closing 1 0 ⌝ }
-{
-    Walked::Closed {
-        place,
-        closing,
-        steps: 1,
+    let mut round = Round {
+        place: 4,
+        held: Opened::Shut,
+        since: 0,
+        steps: 0,
         exposures: 0,
-    }
-}
-
-// One round of a text from a place on; at most `left` commands are looked at. n commands stand since the open raster's run raster.
-fn walk_from(text: &[u8], lists: &[u8], left: usize, place: u8, held: Opened, n: u8) -> Walked
-    requires { ⌜ Walks (now text) left held n ⌝ }
-    ensures { λ r. ⌜ r ≡ walkedOf (walk (envOf (now (lists .entry))) (now (text .entry)) left place held n) ⌝ }
-{
-    let none = Walked::Fault { place, code: 3 };
-    if left == 0 {
-        return none;
-    }
-    let Placed::At(at) = Place::of(place) else {
-        return none;
     };
-    let next = past(text, place);
-    match runner::judge(text, lists, at, held) {
-        Act::Refused(code) => Walked::Fault { place, code },
-        Act::Opens => walk_from(text, lists, left - 1, next, Opened::Open(at, 0), 0),
-        Act::Exposes(_) => walk_from(text, lists, left - 1, next, one_more(held), since(held, n)),
-        Act::Loops(t) => after_loop(
-            text,
-            t,
-            held,
-            n,
-            walk_from(text, lists, left - 1, next, Opened::Shut, 0),
-        ),
-        Act::Waits => after_wait(
-            held,
-            walk_from(text, lists, left - 1, next, held, since(held, n)),
-        ),
-        Act::Calls(m) => closed(place, Closing::CallsOn(m)),
-        Act::Ends => closed(place, Closing::Terminates),
+    let mut left = text.len();
+    while 0 < left {
+        let place = round.place;
+        let Placed::At(at) = Place::of(place) else {
+            return Walked::Fault { place, code: 3 };
+        };
+        let held = round.held;
+        round = match runner::judge(text, lists, at, held) {
+            Act::Refused(code) => return Walked::Fault { place, code },
+            Act::Opens => round.opens(at),
+            Act::Exposes(_) => round.exposes(),
+            Act::Loops(t) => round.loops(text, t),
+            Act::Waits => round.waits(),
+            Act::Calls(n) => return round.closes(Closing::CallsOn(n)),
+            Act::Ends => return round.closes(Closing::Terminates),
+        };
+        left -= 1;
+    }
+    Walked::Fault {
+        place: round.place,
+        code: 3,
     }
 }
 
@@ -263,7 +296,7 @@ fn all_rounds(repeats: u8, round: Walked) -> Walked
             match closing {
                 Closing::Terminates => all,
                 Closing::CallsOn(m) => {
-                    if 127 < m {
+                    if memory::LAST_SEQUENCE < m {
                         Walked::Fault { place, code: 4 }
                     } else {
                         all
@@ -274,79 +307,14 @@ fn all_rounds(repeats: u8, round: Walked) -> Walked
     }
 }
 
-// One sequence's text, taken alone.
-fn check_one(text: &[u8], lists: &[u8]) -> Walked
-    requires { ⌜ length (now text) ≤ 128 ⌝ }
-    ensures { λ r. ⌜ r ≡ walkedOf (checkOne (envOf (now (lists .entry))) (now (text .entry))) ⌝ }
+// One sequence's text, taken alone: at most the 128 bytes of an entry are read.
+pub fn check_one(text: &[u8], lists: &[u8]) -> Walked
+    ensures { λ r. ⌜ r ≡ walkedOf (checkOne (envOf (now (lists .entry))) (take 128 (now (text .entry)))) ⌝ }
 {
-    match sequence::header_of(text) {
+    let entry = octets::part(text, 0, memory::SEQUENCE_SIZE);
+    match sequence::header_of(entry) {
         Header::Fault { code, place } => Walked::Fault { place, code },
-        Header::Repeats(repeats) => all_rounds(
-            repeats,
-            walk_from(text, lists, text.len(), 4, Opened::Shut, 0),
-        ),
-    }
-}
-
-// The chain with sequence n listed and marked.
-fn enter(chain: Chain, n: u8) -> Chain
-    requires { ⌜ Free chain n ⌝ }
-    ensures { λ r. ⌜ r ≡ entered chain n ⌝ }
-{
-    let at = chain.count;
-    let mark = n as usize;
-    let mut next = chain;
-    next.listed[at] = n;
-    next.marks[mark] = true;
-    next.count = at + 1;
-    next
-}
-
-// The chain with one sequence's totals added.
-fn add(chain: Chain, steps: u64, exposures: u64) -> Chain
-    requires { ⌜ (chain .steps + steps < 2 ^ 64) × (chain .exposures + exposures < 2 ^ 64) ⌝ }
-    ensures { λ r. ⌜ r ≡ added chain steps exposures ⌝ }
-{
-    let mut next = chain;
-    next.steps = chain.steps + steps;
-    next.exposures = chain.exposures + exposures;
-    next
-}
-
-// Whether a sequence is marked.
-fn marked(chain: Chain, n: u8) -> bool
-    requires { ⌜ (n < 128) × (length (chain .marks) ≡ 128) ⌝ }
-    ensures { λ r. ⌜ r ≡ getD (chain .marks) n false ⌝ }
-{
-    let mark = n as usize;
-    chain.marks[mark]
-}
-
-// The chain's report, with its totals.
-fn end(chain: Chain, ending: Ending) -> Report
-    ensures { λ r. ⌜ r ≡ ended chain ending ⌝ }
-{
-    let listed = chain.listed;
-    Report {
-        ending,
-        listed,
-        count: chain.count,
-        steps: chain.steps,
-        exposures: chain.exposures,
-    }
-}
-
-// The report of a fault: the chain up to it, and totals 0.
-fn fault(chain: Chain, ending: Ending) -> Report
-    ensures { λ r. ⌜ r ≡ faulted chain ending ⌝ }
-{
-    let listed = chain.listed;
-    Report {
-        ending,
-        listed,
-        count: chain.count,
-        steps: 0,
-        exposures: 0,
+        Header::Repeats(repeats) => all_rounds(repeats, walk(entry, lists)),
     }
 }
 
@@ -363,35 +331,83 @@ fn empty() -> Chain
     }
 }
 
-// Sequence n, which is not listed yet, and what its closing command leads to.
-fn check_sequence(seqs: &[u8], lists: &[u8], n: u8, chain: Chain) -> Report
+// Sequence n, which is not listed yet, listed and marked, and what its closing command leads to.
+fn check_sequence(seqs: &[u8], lists: &[u8], n: u8, mut chain: Chain) -> Checked
     requires { ⌜ Free chain n ⌝ }
-    ensures { λ r. ⌜ ((names : List ℕ) → Is chain names → r ≡ reportOf (joined names (chain .steps) (chain .exposures) (follow (envOf (now (lists .entry))) (now (seqs .entry)) (unmarked (chain .marks)) names n))) ⌝ }
+    ensures { λ r. ⌜ ((names : List ℕ) → Is chain names → reported r ≡ reportOf (joined names (chain .steps) (chain .exposures) (follow (envOf (now (lists .entry))) (now (seqs .entry)) (unmarked (chain .marks)) names n))) ⌝ }
 {
-    let here = enter(chain, n);
+    let at = chain.count;
+    let mark = n as usize;
+    chain.listed[at] = n;
+    chain.marks[mark] = true;
+    chain.count = at + 1;
     match check_one(memory::entry(seqs, n), lists) {
-        Walked::Fault { place, code } => fault(here, Ending::Faulty(code, n, place)),
+        Walked::Fault { place, code } => Checked {
+            chain,
+            ending: Ending::Faulty(code, n, place),
+        },
         Walked::Closed {
             place: _,
             closing,
             steps,
             exposures,
-        } => check_closing(seqs, lists, add(here, steps, exposures), closing),
+        } => {
+            chain.steps += steps;
+            chain.exposures += exposures;
+            check_closing(seqs, lists, chain, closing)
+        }
     }
 }
 
 // A closing command: terminate, a call of a listed sequence, or a call of one that is not.
-fn check_closing(seqs: &[u8], lists: &[u8], chain: Chain, closing: Closing) -> Report
+fn check_closing(seqs: &[u8], lists: &[u8], chain: Chain, closing: Closing) -> Checked
     requires { ⌜ Kept chain × LowCall closing ⌝ }
-    ensures { λ r. ⌜ ((names : List ℕ) → Is chain names → r ≡ reportOf (joined names (chain .steps) (chain .exposures) (ahead (follow (envOf (now (lists .entry))) (now (seqs .entry)) (unmarked (chain .marks)) names) closing))) ⌝ }
+    ensures { λ r. ⌜ ((names : List ℕ) → Is chain names → reported r ≡ reportOf (joined names (chain .steps) (chain .exposures) (ahead (follow (envOf (now (lists .entry))) (now (seqs .entry)) (unmarked (chain .marks)) names) closing))) ⌝ }
 {
     match closing {
-        Closing::Terminates => end(chain, Ending::Finishes),
+        Closing::Terminates => Checked {
+            chain,
+            ending: Ending::Finishes,
+        },
         Closing::CallsOn(target) => {
-            if marked(chain, target) {
-                return end(chain, Ending::Returns);
+            let mark = target as usize;
+            if chain.marks[mark] {
+                return Checked {
+                    chain,
+                    ending: Ending::Returns,
+                };
             }
             check_sequence(seqs, lists, target, chain)
+        }
+    }
+}
+
+// A sum over the chain as it is reported: 0 unless the chain ends or returns.
+fn total(ending: Ending, sum: u64) -> u64
+    ensures { λ r. ⌜ r ≡ total ending sum 0 ⌝ }
+{
+    match ending {
+        Ending::Unlisted(_) => 0,
+        Ending::Finishes => sum,
+        Ending::Returns => sum,
+        Ending::Faulty(_, _, _) => 0,
+    }
+}
+
+impl Checked {
+    // What is reported of the chain and its ending.
+    fn report(self) -> Report
+        ensures { λ r. ⌜ r ≡ reported self ⌝ }
+    {
+        let chain = self.chain;
+        let listed = chain.listed;
+        let ending = self.ending;
+        Report {
+            ending,
+            listed,
+            count: chain.count,
+            steps: total(ending, chain.steps),
+            exposures: total(ending, chain.exposures),
         }
     }
 }
@@ -401,12 +417,20 @@ fn check_closing(seqs: &[u8], lists: &[u8], chain: Chain, closing: Closing) -> R
 pub fn check(seqs: &[u8], lists: &[u8], number: u32) -> Report
     ensures { λ r. ⌜ r ≡ reportOf (checkOf (now (seqs .entry)) (now (lists .entry)) number) ⌝ }
 {
-    let start = empty();
+    let chain = empty();
     if memory::tables_wrong(seqs, lists) {
-        return fault(start, Ending::Unlisted(16));
+        let wrong = Checked {
+            chain,
+            ending: Ending::Unlisted(16),
+        };
+        return wrong.report();
     }
-    if 127 < number {
-        return fault(start, Ending::Unlisted(7));
+    if (memory::LAST_SEQUENCE as u32) < number {
+        let above = Checked {
+            chain,
+            ending: Ending::Unlisted(7),
+        };
+        return above.report();
     }
-    check_sequence(seqs, lists, number as u8, start)
+    check_sequence(seqs, lists, number as u8, chain).report()
 }

@@ -1,18 +1,18 @@
 -- A law for each way out of the functions that take a packet, with the callees' equations as premises. Assumes nothing.
-use Prim.Native.Nat.{ℕ, _≤_}
+use Prim.Native.Nat.{ℕ, _*_, _%_, _≤_}
+use native.Mathlib.Nat.{add-zero, zero-add}
 use native.Mathlib.Omega.{arith}
 use mathlib.Core.Path.{_≡_, refl, sym, ap, subst, _∙_}
-use mathlib.Core.Bool.{not, cond}
+use mathlib.Core.Bool.{cond}
 use mathlib.Core.List.{List, [], _∷_, _++_}
-use lib.Dec.{ltb, eqb}
-use lib.ListN.{length, take, drop, length-take, length-drop}
-use lib.Seq.{take-all, take-length}
-use borrow.Author.Tests.{eq-eqb, ne-eqb}
+use lib.ListN.{length, take, drop, replicate, length-take, length-drop, drop-of-length-le}
+use lib.Seq.{take-all, length-take-le}
+use borrow.Author.Tests.{ne-eqb, le-leb}
 use Rattle.octets.specs.Bytes.{byteAt, tripleAt}
-use Rattle.octets.specs.Rows.{Row, row, firstCode}
+use Rattle.octets.specs.Rows.{firstCode}
 use Rattle.memory.specs.declared.Range.{Range}
 use Rattle.memory.specs.declared.Range.the-variants.{Sequences, LineLists, Wrong}
-use Rattle.memory.specs.Memory.{rangeAt, partOf, seqsWritten, listsWritten}
+use Rattle.memory.specs.Memory.{partOf, written, seqsWritten, listsWritten}
 use Rattle.memory.proofs.Laws.{Fits, range-fits}
 use Rattle.sequence.specs.Env.{envOf}
 use Rattle.runner.specs.declared.Stepped.{Stepped}
@@ -23,8 +23,9 @@ use Rattle.unit.specs.declared.UnitStep.{UnitStep}
 use Rattle.unit.specs.declared.Kind.{Kind}
 use Rattle.unit.specs.declared.Kind.the-variants.{Uplink, Foreign, Unheard}
 use Rattle.unit.specs.declared.Answer.{Answer}
-use Rattle.unit.specs.State.{outOfRange}
-use Rattle.unit.specs.Packet.{foreign, kindOf, isForeign, isUnheard, lengthGood, dumpRange, uplinkRange, ownRows, lentWrong, packetRows, codeOf}
+use Rattle.unit.specs.Packet.{foreign, kindOf, dumpRange, uplinkRange, codeOf}
+use Rattle.octets.specs.Bytes.{two, four, halves}
+use Rattle.unit.specs.Status.{piece, laid, running, orZero, statusOf}
 use Rattle.unit.specs.Answer.{answer, obeyedUnit, reply, obeyedSeqs, obeyedLists, refusedUnit, unitAfter, replyOf, answerOf, seqsAfter, listsAfter, outAfter}
 use Rattle.unit.specs.Step.{stepRows, stepped, taken, unitStep}
 use Rattle.unit.proofs.Laws.{lent-right, room}
@@ -48,30 +49,29 @@ unnamed n r =
       ne-eqb n 0xE7 (r .1),
     )
 
--- ── refusals
--- the table's rows, of a packet whose command is known
-abbrev pub rowsOf : Kind → Unit → List ℕ → List ℕ → List ℕ → List ℕ → List Row
-rowsOf k u seqs lists out p =
-    row 16 (lentWrong seqs lists out)
-    ∷ row 17 (outOfRange u)
-    ∷ row 1 (eqb (length p) 0)
-    ∷ row 8 (ltb 133 (length p))
-    ∷ row 5 (isForeign k)
-    ∷ row 6 (isUnheard k)
-    ∷ row 1 (not (lengthGood k p))
-    ∷ ownRows k u p
-
-pub code-by : (k : Kind) (u : Unit) (seqs lists out p : List ℕ) → k ≡ kindOf (byteAt p 0) → firstCode (rowsOf k u seqs lists out p) ≡ codeOf u seqs lists out p
-unfolding packetRows codeOf
-code-by k u seqs lists out p e = ap (λ (x : Kind). firstCode (rowsOf x u seqs lists out p)) e
+-- ── a status
+-- the unit's parts, each written over what the one before it left
+pub status-written : (u : Unit) (time r s : ℕ) (out a b d e f g h i j : List ℕ) → length out ≡ 104
+    → r ≡ halves 2 (running (u .runner .running)) → s ≡ orZero (u .runner .sequence)
+    → a ≡ replicate 104 0 ++ drop 104 out
+    → b ≡ laid a (piece 0 (0x01 ∷ []) ∷ piece 3 (0x64 ∷ 0x10 ∷ []) ∷ [])
+    → d ≡ laid b (piece 5 (halves (u .control .mode) (u .ledger .code) ∷ []) ∷ piece 6 (two (u .control .requests)) ∷ [])
+    → e ≡ laid d (piece 8 (four time) ∷ [])
+    → f ≡ laid e (piece 12 (two (u .ledger .received)) ∷ piece 16 (two (u .ledger .failed)) ∷ [])
+    → g ≡ laid f (piece 18 (u .ledger .number ∷ []) ∷ piece 21 (r ∷ []) ∷ piece 24 (s ∷ u .runner .place ∷ []) ∷ [])
+    → h ≡ laid g (piece 26 (u .watch .list ∷ []) ∷ piece 28 (two (u .watch .exposures)) ∷ piece 94 (u .watch .abort % 16 * 16 ∷ []) ∷ [])
+    → i ≡ laid h (piece 30 (two (u .runner .mirror)) ∷ [])
+    → j ≡ laid i (piece 68 (u .ledger .log .bc1 ∷ u .ledger .log .bc2 ∷ u .ledger .log .bc3 ∷ u .ledger .log .size ∷ []) ∷ [])
+    → j ≡ statusOf u time
+unfolding statusOf
+status-written u time r s out a b d e f g h i j sized er es ea eb ed ee ef eg eh ei ej =
+    let none : drop 104 out ≡ [] = drop-of-length-le out {i = 104} (omega arith) in
+    rw (ej, ei, eh, eg, ef, ee, ed, eb, ea, none, er, es, add-zero (u .watch .abort % 16 * 16)) refl
 
 -- ── a reply
 -- bytes laid over the output's start
 abbrev pub laidOver : List ℕ → List ℕ → List ℕ
 laidOver src out = src ++ drop (length src) out
-
-pub copied : (src out : List ℕ) → take (length src) src ++ drop (length src) out ≡ laidOver src out
-copied src out = ap (λ (l : List ℕ). l ++ drop (length src) out) (take-length src)
 
 part-short : (seqs lists : List ℕ) (len : ℕ) (r : Range) → Fits len r → length (partOf seqs lists len r) ≤ 16384
 part-short seqs lists len (Sequences at) f = simp length-take (omega arith)
@@ -91,6 +91,19 @@ pub replied : (k k' : Kind) (u : Unit) (time : ℕ) (seqs lists out p src : List
     → Replied (reply k u time seqs lists p) n out out'
 replied k k' u time seqs lists out p src n out' told e laid =
     subst (λ (x : List ℕ). Replied x n out out') (e ∙ ap (λ (x : Kind). reply x u time seqs lists p) (sym told)) laid
+
+pub status-room : (out : List ℕ) → 16384 ≤ length out → length (take 104 out) ≡ 104
+status-room out h = length-take-le 104 out (omega arith)
+
+pub status-replied : (u : Unit) (time : ℕ) (x out : List ℕ) → x ≡ statusOf u time → Replied (statusOf u time) 104 out (x ++ drop 104 out)
+unfolding statusOf
+status-replied u time x out e = (refl, ap (λ (l : List ℕ). l ++ drop 104 out) e)
+
+pub dump-replied : (seqs lists p src out out' : List ℕ) → src ≡ partOf seqs lists (tripleAt p 4) (dumpRange p) → 16384 ≤ length out
+    → out' ≡ written out 0 src → Replied src (length src) out out'
+dump-replied seqs lists p src out out' f h e =
+    let k : length src ≤ length out = omega (arith, ap length f, dump-short seqs lists p) in
+    (refl, e ∙ simp (zero-add, le-leb (length src) (length out) k))
 
 -- ── an uplink
 pub uplinked : (k : Kind) (p seqs lists d : List ℕ) (r : Range) (seqs' lists' : List ℕ)

@@ -1,10 +1,11 @@
 -- The status block, by the paper's positions.
-use Prim.Native.Nat.{ℕ, _+_, _*_, _/_, _%_}
+use Prim.Native.Nat.{ℕ}
 use mathlib.Core.Bool.{Bool, true, false, cond}
 use mathlib.Core.List.{List, [], _∷_, _++_}
 use lib.Dec.{eqb}
 use lib.ListN.{replicate}
 use lib.Seq.{sets}
+use Rattle.octets.specs.Bytes.{two, four, halves}
 use Rattle.unit.specs.declared.Unit.{Unit}
 
 -- bytes laid over a block from a position on
@@ -18,17 +19,6 @@ piece at bytes = record { at = at; bytes = bytes }
 abbrev pub laid : List ℕ → List Piece → List ℕ
 laid block [] = block
 laid block (p ∷ ps) = laid (sets block (p .at) (p .bytes)) ps
-
--- words of two and four bytes, high byte first
-abbrev pub two : ℕ → List ℕ
-two n = n / 256 % 256 ∷ n % 256 ∷ []
-
-abbrev pub four : ℕ → List ℕ
-four n = n / 16777216 % 256 ∷ n / 65536 % 256 ∷ n / 256 % 256 ∷ n % 256 ∷ []
-
--- "bits 0-3" and "bits 4-7": bit 0 is the most significant
-abbrev pub halves : ℕ → ℕ → ℕ
-halves a b = a % 16 * 16 + b % 16
 
 -- "bits 4-7 are 1 running, 2 stopped"
 abbrev pub running : Bool → ℕ

@@ -1,22 +1,26 @@
 // The unit: packets, answers, the status block, and its step.
-ghost use Prim.Native.Nat.{_≤_};
+ghost use Prim.Native.Nat.{_*_, _%_, _≤_};
 ghost use mathlib.Core.Path.{_≡_};
-ghost use mathlib.Core.Bool.{true, cond, _&&_, _||_};
+ghost use mathlib.Core.Bool.{true, cond, not, _&&_, _||_};
 ghost use mathlib.Core.List.{[], _∷_, _++_};
 ghost use lib.Dec.{ltb};
-ghost use lib.ListN.{length, take, drop, replicate};
-ghost use Rattle.octets.specs.Bytes.{tripleAt};
-ghost use Rattle.octets.specs.Rows.{firstCode};
-ghost use Rattle.memory.specs.Memory.{windowCode, windowPart, isWrong, partOf};
+ghost use lib.ListN.{length, drop};
+ghost use Rattle.octets.specs.Bytes.{tripleAt, halves, two, four};
+ghost use Rattle.octets.specs.Rows.{row, firstCode};
+ghost use Rattle.memory.specs.Memory.{windowCode, windowPart, partOf};
 ghost use Rattle.unit.specs.State.{powerOn, beyond, runsWrong, some, rangeTests, outOfRange, withLedger, withWatch, withAbort, withMode, withControl, withAllowed, counted, logOf, received, failed, cleared, started, stopped, moded, selected};
 ghost use Rattle.unit.specs.Packet.{between, foreign, dumpRange, uplinkRange, kindOf, isForeign, isUnheard, lengthGood, pairAllowed, ownRows, lentWrong, codeOf};
-ghost use Rattle.unit.specs.Status.{halves, running, orZero, laid, pieces, statusOf};
+ghost use Rattle.unit.specs.Status.{piece, laid, running, orZero, statusOf};
 ghost use Rattle.unit.specs.Answer.{logged, asked, obeyedUnit, reply, obeyedSeqs, obeyedLists, refusedUnit, answerOf, seqsAfter, listsAfter, outAfter};
 ghost use Rattle.unit.specs.Step.{watched, stepRows, taken, unitStep};
+use memory::Address;
 use memory::Range;
 use runner::Event;
 use runner::Runner;
 use runner::Stepped;
+
+// The bytes of a status: 4, and a block of 100.
+const STATUS: usize = 104;
 
 // The log of the last packet: BC1, BC2, BC3, length.
 pub struct Log {
@@ -110,15 +114,15 @@ impl Ledger {
 
 impl Unit {
     // The mirror's end stop, the tables' sizes and counts, and the longest packet.
-    pub const END_STOP: u16 = 2400;
+    pub const END_STOP: u16 = Runner::END_STOP;
 
-    pub const SEQUENCE_TABLE: usize = 16384;
+    pub const SEQUENCE_TABLE: usize = memory::SEQUENCE_TABLE;
 
-    pub const LINE_LIST_TABLE: usize = 7872;
+    pub const LINE_LIST_TABLE: usize = memory::LINE_LIST_TABLE;
 
-    pub const SEQUENCES: u8 = 128;
+    pub const SEQUENCES: u8 = memory::SEQUENCES as u8;
 
-    pub const LINE_LISTS: u8 = 48;
+    pub const LINE_LISTS: u8 = memory::LINE_LISTS as u8;
 
     pub const LONGEST_PACKET: usize = 133;
 
@@ -155,13 +159,6 @@ impl Unit {
     }
 }
 
-// Whether a test holds or any of the rest does.
-fn either(test: bool, rest: bool) -> bool
-    ensures { λ r. ⌜ r ≡ (test || rest) ⌝ }
-{
-    if test { true } else { rest }
-}
-
 // Whether two tests hold.
 fn both(test: bool, rest: bool) -> bool
     ensures { λ r. ⌜ r ≡ (test && rest) ⌝ }
@@ -169,11 +166,11 @@ fn both(test: bool, rest: bool) -> bool
     if test { rest } else { false }
 }
 
-// Whether a number that may be none is above 127.
+// Whether a number that may be none is above 127, the last sequence's number and the last place.
 fn beyond(n: u8) -> bool
     ensures { λ r. ⌜ r ≡ beyond n ⌝ }
 {
-    both(127 < n, n != Runner::NONE)
+    both(memory::LAST_SEQUENCE < n, n != Runner::NONE)
 }
 
 impl Unit {
@@ -183,9 +180,9 @@ impl Unit {
     {
         both(
             self.runner.running,
-            either(
+            octets::either(
                 self.control.mode != 3,
-                either(
+                octets::either(
                     self.control.selection == Runner::NONE,
                     self.runner.sequence == Runner::NONE,
                 ),
@@ -198,15 +195,18 @@ impl Unit {
     fn run_out_of_range(self) -> bool
         ensures { λ r. ⌜ r ≡ some (drop 6 (rangeTests self)) ⌝ }
     {
-        either(
-            127 < self.runner.place,
-            either(
+        octets::either(
+            memory::LAST_PLACE < self.runner.place,
+            octets::either(
                 beyond(self.runner.raster),
-                either(
-                    47 < self.watch.list,
-                    either(
+                octets::either(
+                    memory::LAST_LINE_LIST < self.watch.list,
+                    octets::either(
                         Unit::END_STOP < self.runner.mirror,
-                        either(8 < self.runner.count, either(self.runs_wrong(), false)),
+                        octets::either(
+                            Runner::FULL_SET < self.runner.count,
+                            octets::either(self.runs_wrong(), false),
+                        ),
                     ),
                 ),
             ),
@@ -217,17 +217,17 @@ impl Unit {
     pub fn out_of_range(self) -> bool
         ensures { λ r. ⌜ r ≡ outOfRange self ⌝ }
     {
-        either(
+        octets::either(
             self.control.mode < 1,
-            either(
+            octets::either(
                 3 < self.control.mode,
-                either(
+                octets::either(
                     15 < self.ledger.code,
-                    either(
+                    octets::either(
                         15 < self.watch.abort,
-                        either(
+                        octets::either(
                             beyond(self.runner.sequence),
-                            either(beyond(self.control.selection), self.run_out_of_range()),
+                            octets::either(beyond(self.control.selection), self.run_out_of_range()),
                         ),
                     ),
                 ),
@@ -271,31 +271,34 @@ impl Ledger {
     fn received(self, pkt: &[u8]) -> Ledger
         ensures { λ r. ⌜ r ≡ received (now (pkt .entry)) self ⌝ }
     {
-        let mut ledger = self;
-        ledger.received = counted(self.received);
-        let log = log_of(pkt);
-        ledger.log = log;
-        ledger
+        Ledger {
+            received: counted(self.received),
+            log: log_of(pkt),
+            ..self
+        }
     }
 
     // A packet counted, logged and refused with a code.
     fn failed(self, pkt: &[u8], code: u8) -> Ledger
         ensures { λ r. ⌜ r ≡ failed (now (pkt .entry)) code self ⌝ }
     {
-        let mut ledger = self.received(pkt);
-        ledger.failed = counted(self.failed);
-        ledger.code = code;
-        ledger.number = octets::byte(pkt, 0);
-        ledger
+        Ledger {
+            failed: counted(self.failed),
+            code,
+            number: octets::byte(pkt, 0),
+            ..self.received(pkt)
+        }
     }
 
     // No failure is shown.
-    fn cleared(mut self) -> Ledger
+    fn cleared(self) -> Ledger
         ensures { λ r. ⌜ r ≡ cleared self ⌝ }
     {
-        self.code = 0;
-        self.number = 0;
-        self
+        Ledger {
+            code: 0,
+            number: 0,
+            ..self
+        }
     }
 }
 
@@ -304,70 +307,75 @@ impl Unit {
     fn logged(self, pkt: &[u8]) -> Unit
         ensures { λ r. ⌜ r ≡ logged (now (pkt .entry)) self ⌝ }
     {
-        let old = self.ledger;
-        let ledger = old.received(pkt);
-        let mut unit = self;
-        unit.ledger = ledger;
-        unit
+        Unit {
+            ledger: self.ledger.received(pkt),
+            ..self
+        }
     }
 
     // A status request, counted by STATUS_PC alone.
     fn asked(self) -> Unit
         ensures { λ r. ⌜ r ≡ asked self ⌝ }
     {
-        let mut control = self.control;
-        control.requests = counted(control.requests);
-        let mut unit = self;
-        unit.control = control;
-        unit
+        Unit {
+            control: Control {
+                requests: counted(self.control.requests),
+                ..self.control
+            },
+            ..self
+        }
     }
 
     // Mode changes are allowed until power off.
     fn allowed(self) -> Unit
         ensures { λ r. ⌜ r ≡ withControl (withAllowed true (self .control)) self ⌝ }
     {
-        let mut control = self.control;
-        control.allowed = true;
-        let mut unit = self;
-        unit.control = control;
-        unit
+        Unit {
+            control: Control {
+                allowed: true,
+                ..self.control
+            },
+            ..self
+        }
     }
 
     // Failed code, failed number and abort code to 0.
     fn cleared(self) -> Unit
         ensures { λ r. ⌜ r ≡ withLedger (cleared (self .ledger)) (withWatch (withAbort 0 (self .watch)) self) ⌝ }
     {
-        let old = self.ledger;
-        let ledger = old.cleared();
-        let mut watch = self.watch;
-        watch.abort = 0;
-        let mut unit = self;
-        unit.ledger = ledger;
-        unit.watch = watch;
-        unit
+        Unit {
+            ledger: self.ledger.cleared(),
+            watch: Watch {
+                abort: 0,
+                ..self.watch
+            },
+            ..self
+        }
     }
 
     // AUTO, with the selected sequence to be entered.
     fn started(self) -> Unit
         ensures { λ r. ⌜ r ≡ started self ⌝ }
     {
-        let mut control = self.control;
-        control.mode = 3;
-        let mut watch = self.watch;
-        watch.exposures = 0;
-        watch.abort = 0;
-        let mut runner = self.runner;
-        runner.sequence = control.selection;
-        runner.place = 0;
-        runner.raster = Runner::NONE;
-        runner.running = true;
-        runner.entering = true;
-        let ledger = self.ledger;
         Unit {
-            ledger,
-            control,
-            watch,
-            runner,
+            control: Control {
+                mode: 3,
+                ..self.control
+            },
+            watch: Watch {
+                exposures: 0,
+                abort: 0,
+                ..self.watch
+            },
+            runner: Runner {
+                sequence: self.control.selection,
+                place: 0,
+                raster: Runner::NONE,
+                running: true,
+                entering: true,
+                ..self.runner
+            },
+            ..self
         }
     }
 
@@ -375,25 +383,30 @@ impl Unit {
     fn stopped(self) -> Unit
         ensures { λ r. ⌜ r ≡ stopped self ⌝ }
     {
-        let mut watch = self.watch;
-        watch.abort = 1;
-        let mut runner = self.runner;
-        runner.running = false;
-        let mut unit = self;
-        unit.watch = watch;
-        unit.runner = runner;
-        unit
+        Unit {
+            watch: Watch {
+                abort: 1,
+                ..self.watch
+            },
+            runner: Runner {
+                running: false,
+                ..self.runner
+            },
+            ..self
+        }
     }
 
     // The mode alone changed.
     fn in_mode(self, mode: u8) -> Unit
         ensures { λ r. ⌜ r ≡ withControl (withMode mode (self .control)) self ⌝ }
     {
-        let mut control = self.control;
-        control.mode = mode;
-        let mut unit = self;
-        unit.control = control;
-        unit
+        Unit {
+            control: Control {
+                mode,
+                ..self.control
+            },
+            ..self
+        }
     }
 
     // The mode changed: to AUTO a start, from a running sequence a stop.
@@ -413,15 +426,18 @@ impl Unit {
     fn selected(self, number: u8) -> Unit
         ensures { λ r. ⌜ r ≡ selected number self ⌝ }
     {
-        let mut control = self.control;
-        control.selection = number;
-        let mut runner = self.runner;
-        runner.sequence = number;
-        runner.place = 0;
-        let mut unit = self;
-        unit.control = control;
-        unit.runner = runner;
-        unit
+        Unit {
+            control: Control {
+                selection: number,
+                ..self.control
+            },
+            runner: Runner {
+                sequence: number,
+                place: 0,
+                ..self.runner
+            },
+            ..self
+        }
     }
 }
 
@@ -436,15 +452,15 @@ fn between(from: u8, to: u8, n: u8) -> bool
 fn foreign(n: u8) -> bool
     ensures { λ r. ⌜ r ≡ foreign n ⌝ }
 {
-    either(
+    octets::either(
         n == 0x00,
-        either(
+        octets::either(
             between(0x10, 0x1F, n),
-            either(
+            octets::either(
                 between(0xE0, 0xE4, n),
-                either(
+                octets::either(
                     between(0xF0, 0xF4, n),
-                    either(between(0xF6, 0xFF, n), false),
+                    octets::either(between(0xF6, 0xFF, n), false),
                 ),
             ),
         ),
@@ -531,41 +547,30 @@ impl Kind {
 fn pair_allowed(from: u8, to: u8) -> bool
     ensures { λ r. ⌜ r ≡ pairAllowed from to ⌝ }
 {
-    either(
+    octets::either(
         both(from == 1, to == 2),
-        either(
+        octets::either(
             both(from == 2, to == 1),
-            either(
+            octets::either(
                 both(from == 2, to == 3),
-                either(both(from == 3, to == 2), false),
+                octets::either(both(from == 3, to == 2), false),
             ),
         ),
     )
-}
-
-// Whether a range is in no table.
-fn is_wrong(range: Range) -> bool
-    ensures { λ r. ⌜ r ≡ isWrong range ⌝ }
-{
-    match range {
-        Range::Sequences(_) => false,
-        Range::LineLists(_) => false,
-        Range::Wrong => true,
-    }
 }
 
 // The range that a dump names.
 fn dump_range(pkt: &[u8]) -> Range
     ensures { λ r. ⌜ r ≡ dumpRange (now (pkt .entry)) ⌝ }
 {
-    memory::range_at(octets::triple(pkt, 1), octets::triple(pkt, 4) as usize)
+    Address::of(octets::triple(pkt, 1)).range(octets::triple(pkt, 4) as usize)
 }
 
 // The range that an uplink names.
 fn uplink_range(pkt: &[u8]) -> Range
     ensures { λ r. ⌜ r ≡ uplinkRange (now (pkt .entry)) ⌝ }
 {
-    memory::range_at(octets::triple(pkt, 1), octets::byte(pkt, 4) as usize)
+    Address::of(octets::triple(pkt, 1)).range(octets::byte(pkt, 4) as usize)
 }
 
 impl Unit {
@@ -601,9 +606,9 @@ impl Unit {
     fn select_fault(self, pkt: &[u8]) -> u8
         ensures { λ r. ⌜ r ≡ firstCode (ownRows Kind.Select self (now (pkt .entry))) ⌝ }
     {
-        let number = octets::byte(pkt, 1);
         let outside = self.control.mode != 2;
-        octets::refuse(outside, 10, octets::refuse(127 < number, 7, 0))
+        let unknown = memory::LAST_SEQUENCE < octets::byte(pkt, 1);
+        octets::refuse(outside, 10, octets::refuse(unknown, 7, 0))
     }
 
     // What an uplink is refused with.
@@ -613,7 +618,7 @@ impl Unit {
         octets::refuse(
             self.runner.running,
             10,
-            octets::refuse(is_wrong(uplink_range(pkt)), 7, 0),
+            octets::refuse(uplink_range(pkt).is_wrong(), 7, 0),
         )
     }
 
@@ -623,7 +628,7 @@ impl Unit {
     {
         match kind {
             Kind::Status => 0,
-            Kind::Dump => octets::refuse(is_wrong(dump_range(pkt)), 7, 0),
+            Kind::Dump => octets::refuse(dump_range(pkt).is_wrong(), 7, 0),
             Kind::Allow => 0,
             Kind::Mode => self.mode_fault(pkt),
             Kind::Clear => 0,
@@ -636,43 +641,43 @@ impl Unit {
 }
 
 // Whether a lent table or the output has a wrong size.
-fn lent_wrong(seqs: &[u8], lists: &[u8], out: &[u8]) -> bool
+pub fn lent_wrong(seqs: &[u8], lists: &[u8], out: &[u8]) -> bool
     ensures { λ r. ⌜ r ≡ lentWrong (now (seqs .entry)) (now (lists .entry)) (now (out .entry)) ⌝ }
 {
-    either(
+    octets::either(
         memory::tables_wrong(seqs, lists),
         out.len() < memory::LONGEST,
     )
 }
 
 impl Unit {
-    // The code that a packet is answered: that of the first refusal that holds, or 0.
+    // The code that a packet is answered: that of the first refusal that holds, or 0. No later one is looked at.
     fn refusal(self, seqs: &[u8], lists: &[u8], out: &[u8], pkt: &[u8]) -> u8
         ensures { λ r. ⌜ r ≡ codeOf self (now (seqs .entry)) (now (lists .entry)) (now (out .entry)) (now (pkt .entry)) ⌝ }
     {
+        if lent_wrong(seqs, lists, out) {
+            return 16;
+        }
+        if self.out_of_range() {
+            return 17;
+        }
+        if pkt.len() == 0 {
+            return 1;
+        }
+        if Unit::LONGEST_PACKET < pkt.len() {
+            return 8;
+        }
         let kind = kind_of(octets::byte(pkt, 0));
-        let from_length = octets::refuse(!kind.length_good(pkt), 1, self.own_fault(kind, pkt));
-        octets::refuse(
-            lent_wrong(seqs, lists, out),
-            16,
-            octets::refuse(
-                self.out_of_range(),
-                17,
-                octets::refuse(
-                    pkt.len() == 0,
-                    1,
-                    octets::refuse(
-                        Unit::LONGEST_PACKET < pkt.len(),
-                        8,
-                        octets::refuse(
-                            kind.is_foreign(),
-                            5,
-                            octets::refuse(kind.is_unheard(), 6, from_length),
-                        ),
-                    ),
-                ),
-            ),
-        )
+        if kind.is_foreign() {
+            return 5;
+        }
+        if kind.is_unheard() {
+            return 6;
+        }
+        if !kind.length_good(pkt) {
+            return 1;
+        }
+        self.own_fault(kind, pkt)
     }
 }
 
@@ -690,70 +695,122 @@ fn or_zero(n: u8) -> u8
     if n == Runner::NONE { 0 } else { n }
 }
 
+// Writes how a status begins: byte 01, the size, and byte 0 of its block.
+fn put_head(out: &mut [u8])
+    requires { ⌜ length (now out) ≡ 104 ⌝ }
+    ensures { λ _. ⌜ now (out .exit) ≡ laid (now (out .entry)) (piece 0 (0x01 ∷ []) ∷ piece 3 (0x64 ∷ 0x10 ∷ []) ∷ []) ⌝ }
+{
+    out[0] = 0x01;
+    out[3] = 0x64;
+    out[4] = 0x10;
+}
+
+// Writes the time that was given with the call.
+fn put_time(time: u32, out: &mut [u8])
+    requires { ⌜ length (now out) ≡ 104 ⌝ }
+    ensures { λ _. ⌜ now (out .exit) ≡ laid (now (out .entry)) (piece 8 (four time) ∷ []) ⌝ }
+{
+    out[8] = (time / 16777216 % 256) as u8;
+    out[9] = (time / 65536 % 256) as u8;
+    out[10] = (time / 256 % 256) as u8;
+    out[11] = (time % 256) as u8;
+}
+
+impl Control {
+    // Writes the mode, the failed code beside it, and STATUS_PC.
+    fn put(self, code: u8, out: &mut [u8])
+        requires { ⌜ length (now out) ≡ 104 ⌝ }
+        ensures { λ _. ⌜ now (out .exit) ≡ laid (now (out .entry)) (piece 5 (halves (self .mode) code ∷ []) ∷ piece 6 (two (self .requests)) ∷ []) ⌝ }
+    {
+        out[5] = self.mode % 16 * 16 + code % 16;
+        out[6] = (self.requests / 256 % 256) as u8;
+        out[7] = (self.requests % 256) as u8;
+    }
+}
+
+impl Ledger {
+    // Writes the counts of received and failed packets.
+    fn put_counts(self, out: &mut [u8])
+        requires { ⌜ length (now out) ≡ 104 ⌝ }
+        ensures { λ _. ⌜ now (out .exit) ≡ laid (now (out .entry)) (piece 12 (two (self .received)) ∷ piece 16 (two (self .failed)) ∷ []) ⌝ }
+    {
+        out[12] = (self.received / 256 % 256) as u8;
+        out[13] = (self.received % 256) as u8;
+        out[16] = (self.failed / 256 % 256) as u8;
+        out[17] = (self.failed % 256) as u8;
+    }
+}
+
+impl Log {
+    // Writes the log.
+    fn put(self, out: &mut [u8])
+        requires { ⌜ length (now out) ≡ 104 ⌝ }
+        ensures { λ _. ⌜ now (out .exit) ≡ laid (now (out .entry)) (piece 68 (self .bc1 ∷ self .bc2 ∷ self .bc3 ∷ self .size ∷ []) ∷ []) ⌝ }
+    {
+        out[68] = self.bc1;
+        out[69] = self.bc2;
+        out[70] = self.bc3;
+        out[71] = self.size;
+    }
+}
+
+impl Watch {
+    // Writes the line list, the exposures since AUTO and the abort code.
+    fn put(self, out: &mut [u8])
+        requires { ⌜ length (now out) ≡ 104 ⌝ }
+        ensures { λ _. ⌜ now (out .exit) ≡ laid (now (out .entry)) (piece 26 (self .list ∷ []) ∷ piece 28 (two (self .exposures)) ∷ piece 94 (self .abort % 16 * 16 ∷ []) ∷ []) ⌝ }
+    {
+        out[26] = self.list;
+        out[28] = (self.exposures / 256 % 256) as u8;
+        out[29] = (self.exposures % 256) as u8;
+        out[94] = self.abort % 16 * 16;
+    }
+}
+
+// Writes the failed number, whether the unit runs, and its sequence and place.
+fn put_numbers(failed: u8, running: u8, sequence: u8, place: u8, out: &mut [u8])
+    requires { ⌜ length (now out) ≡ 104 ⌝ }
+    ensures { λ _. ⌜ now (out .exit) ≡ laid (now (out .entry)) (piece 18 (failed ∷ []) ∷ piece 21 (running ∷ []) ∷ piece 24 (sequence ∷ place ∷ []) ∷ []) ⌝ }
+{
+    out[18] = failed;
+    out[21] = running;
+    out[24] = sequence;
+    out[25] = place;
+}
+
+// Writes the mirror's position.
+fn put_mirror(mirror: u16, out: &mut [u8])
+    requires { ⌜ length (now out) ≡ 104 ⌝ }
+    ensures { λ _. ⌜ now (out .exit) ≡ laid (now (out .entry)) (piece 30 (two mirror) ∷ []) ⌝ }
+{
+    out[30] = (mirror / 256 % 256) as u8;
+    out[31] = (mirror % 256) as u8;
+}
+
 impl Unit {
-    // The status block as far as the failed number: byte 01, the size, then 100 bytes by the paper's positions, each 4
-    // further on here.
-    fn status_head(self, time: u32) -> [u8; 104]
-        ensures { λ r. ⌜ r ≡ ((0x01 ∷ 0x00 ∷ 0x00 ∷ 0x64 ∷ []) ++ laid (replicate 100 0) (take 7 (pieces self time))) ⌝ }
+    // Writes the status over zeros: the paper's positions of its block are each 4 further on here.
+    fn put_status(self, time: u32, out: &mut [u8])
+        requires { ⌜ length (now out) ≡ 104 ⌝ }
+        ensures { λ _. ⌜ now (out .exit) ≡ statusOf self time ⌝ }
     {
-        let mut b = [0u8; 104];
-        b[0] = 0x01;
-        b[3] = 0x64;
-        b[4] = 0x10;
-        b[5] = self.control.mode % 16 * 16 + self.ledger.code % 16;
-        b[6] = (self.control.requests / 256 % 256) as u8;
-        b[7] = (self.control.requests % 256) as u8;
-        b[8] = (time / 16777216 % 256) as u8;
-        b[9] = (time / 65536 % 256) as u8;
-        b[10] = (time / 256 % 256) as u8;
-        b[11] = (time % 256) as u8;
-        b[12] = (self.ledger.received / 256 % 256) as u8;
-        b[13] = (self.ledger.received % 256) as u8;
-        b[16] = (self.ledger.failed / 256 % 256) as u8;
-        b[17] = (self.ledger.failed % 256) as u8;
-        b[18] = self.ledger.number;
-        b
-    }
-
-    // The status block, the run's bytes from 17 on laid over its head.
-    fn status_block(self, time: u32) -> [u8; 104]
-        ensures { λ r. ⌜ r ≡ statusOf self time ⌝ }
-    {
-        let mut b = self.status_head(time);
-        b[21] = running_byte(self.runner.running);
-        b[24] = or_zero(self.runner.sequence);
-        b[25] = self.runner.place;
-        b[26] = self.watch.list;
-        b[28] = (self.watch.exposures / 256 % 256) as u8;
-        b[29] = (self.watch.exposures % 256) as u8;
-        b[30] = (self.runner.mirror / 256 % 256) as u8;
-        b[31] = (self.runner.mirror % 256) as u8;
-        b[68] = self.ledger.log.bc1;
-        b[69] = self.ledger.log.bc2;
-        b[70] = self.ledger.log.bc3;
-        b[71] = self.ledger.log.size;
-        b[94] = self.watch.abort % 16 * 16;
-        b
-    }
-}
-
-// Lays an answer over the output's start and gives its length. What stands past it stays.
-fn lay(src: &[u8], out: &mut [u8]) -> usize
-    requires { ⌜ length (now src) ≤ length (now out) ⌝ }
-    ensures { λ r. ⌜ r ≡ length (now (src .entry)) ⌝ }
-    ensures { λ _. ⌜ now (out .exit) ≡ now (src .entry) ++ drop (length (now (src .entry))) (now (out .entry)) ⌝ }
-{
-    bytes::copy(src, out)
-}
-
-// A range's own bytes in its table; a wrong range has none.
-fn part_of<'a>(seqs: &'a [u8], lists: &'a [u8], len: usize, range: Range) -> &'a [u8]
-    ensures { λ r. ⌜ now r ≡ partOf (now (seqs .entry)) (now (lists .entry)) len range ⌝ }
-{
-    match range {
-        Range::Sequences(at) => octets::part(seqs, at, len),
-        Range::LineLists(at) => octets::part(lists, at, len),
-        Range::Wrong => &seqs[..0],
+        let running = running_byte(self.runner.running);
+        let sequence = or_zero(self.runner.sequence);
+        let zeros = [0u8; STATUS];
+        bytes::copy(&zeros, out);
+        put_head(out);
+        self.control.put(self.ledger.code, out);
+        put_time(time, out);
+        self.ledger.put_counts(out);
+        put_numbers(
+            self.ledger.number,
+            running,
+            sequence,
+            self.runner.place,
+            out,
+        );
+        self.watch.put(out);
+        put_mirror(self.runner.mirror, out);
+        self.ledger.log.put(out);
     }
 }
 
@@ -761,16 +818,12 @@ fn part_of<'a>(seqs: &'a [u8], lists: &'a [u8], len: usize, range: Range) -> &'a
 fn dumped<'a>(seqs: &'a [u8], lists: &'a [u8], pkt: &[u8]) -> &'a [u8]
     ensures { λ r. ⌜ now r ≡ partOf (now (seqs .entry)) (now (lists .entry)) (tripleAt (now (pkt .entry)) 4) (dumpRange (now (pkt .entry))) ⌝ }
 {
-    part_of(
-        seqs,
-        lists,
-        octets::triple(pkt, 4) as usize,
-        dump_range(pkt),
-    )
+    let len = octets::triple(pkt, 4) as usize;
+    memory::part_of(seqs, lists, len, dump_range(pkt))
 }
 
 impl Unit {
-    // Lays what answers an obeyed packet over the output's start and gives its length.
+    // Writes what answers an obeyed packet over the output's start and gives its length. What stands past it stays.
     fn reply<'a>(
         self,
         kind: Kind,
@@ -786,10 +839,14 @@ impl Unit {
     {
         match kind {
             Kind::Status => {
-                let block = self.asked().status_block(time);
-                lay(&block, out)
+                self.asked().put_status(time, &mut out[..STATUS]);
+                STATUS
             }
-            Kind::Dump => lay(dumped(seqs, lists, pkt), out),
+            Kind::Dump => {
+                let part = dumped(seqs, lists, pkt);
+                memory::write(out, 0, part);
+                part.len()
+            }
             Kind::Allow => 0,
             Kind::Mode => 0,
             Kind::Clear => 0,
@@ -825,11 +882,10 @@ impl Unit {
         if 16 <= code {
             return self;
         }
-        let old = self.ledger;
-        let ledger = old.failed(pkt, code);
-        let mut unit = self;
-        unit.ledger = ledger;
-        unit
+        Unit {
+            ledger: self.ledger.failed(pkt, code),
+            ..self
+        }
     }
 }
 
@@ -912,28 +968,24 @@ pub fn window<'a>(seqs: &'a [u8], lists: &'a [u8], address: u32, len: usize) -> 
 fn watched(event: Event, watch: Watch) -> Watch
     ensures { λ r. ⌜ r ≡ watched event watch ⌝ }
 {
-    let mut after = watch;
     match event {
         Event::Idle => watch,
         Event::Enter(_) => watch,
-        Event::Raster(_, _, list) => {
-            after.list = list;
-            after
-        }
-        Event::Exp(_) => {
-            after.exposures = counted(watch.exposures);
-            after
-        }
+        Event::Raster(_, _, list) => Watch { list, ..watch },
+        Event::Exp(_) => Watch {
+            exposures: counted(watch.exposures),
+            ..watch
+        },
         Event::Loop(_) => watch,
         Event::Next => watch,
         Event::Done => watch,
         Event::Wait(_) => watch,
         Event::Call(_) => watch,
         Event::End => watch,
-        Event::Abort(code, _, _) => {
-            after.abort = code;
-            after
-        }
+        Event::Abort(code, _, _) => Watch {
+            abort: code,
+            ..watch
+        },
     }
 }
 
@@ -944,16 +996,13 @@ impl Unit {
     {
         let event = stepped.event;
         let runner = stepped.runner;
-        let ledger = self.ledger;
-        let control = self.control;
         let watch = watched(event, self.watch);
         UnitStep {
             outcome: Outcome::Saw(event),
             unit: Unit {
-                ledger,
-                control,
                 watch,
                 runner,
+                ..self
             },
         }
     }
@@ -980,7 +1029,6 @@ impl Unit {
                 unit: self,
             };
         }
-        let runner = self.runner;
-        self.taken(runner.step(seqs, lists))
+        self.taken(self.runner.step(seqs, lists))
     }
 }

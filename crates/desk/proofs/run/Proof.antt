@@ -1,24 +1,30 @@
 -- The invariant keeps the lent slices' lengths; the turns left fall.
 use borrow.Author.Needs.{needs}
-use mathlib.Core.Path.{_≡_, refl}
+use mathlib.Core.Path.{_≡_, refl, _∙_}
 use lib.ListN.{length}
 use Rattle.desk.proofs.run.Statement.{statement}
 use Rattle.desk.proofs.run.Tie as tie
 
 abbrev Inv-loop : tie.InvT-loop
-Inv-loop seqs₀ lists₀ out₀ held₀ piece₀ text₀ desk₀ turns₀ seqs lists out held piece text desk turns = (length seqs ≡ length seqs₀) × (length lists ≡ length lists₀) × (length out ≡ length out₀) × (length held ≡ length held₀) × (length piece ≡ length piece₀) × (length text ≡ length text₀)
+Inv-loop seqs₀ lists₀ out₀ piece₀ text₀ desk₀ held₀ turns₀ seqs lists out piece text desk held turns = (length seqs ≡ length seqs₀) × (length lists ≡ length lists₀) × (length out ≡ length out₀) × (length piece ≡ length piece₀) × (length text ≡ length text₀)
 
 abbrev μ-loop : tie.MeasureT-loop
-μ-loop seqs₀ lists₀ out₀ held₀ piece₀ text₀ desk₀ turns₀ seqs lists out held piece text desk turns = turns
+μ-loop seqs₀ lists₀ out₀ piece₀ text₀ desk₀ held₀ turns₀ seqs lists out piece text desk held turns = turns
 
 power-on-requires : tie.Need-power-on-requires Inv-loop μ-loop
 power-on-requires c κs = search needs
 
 loop-holds : tie.Need-loop-holds Inv-loop μ-loop
-loop-holds c = (refl, refl, refl, refl, refl, refl)
+loop-holds c = (refl, refl, refl, refl, refl)
 
-read-piece-requires : tie.Need-read-piece-requires Inv-loop μ-loop
-read-piece-requires c κs = search needs
+next-piece-requires : tie.Need-next-piece-requires Inv-loop μ-loop
+next-piece-requires c κs = search needs
+
+part-requires : tie.Need-part-requires Inv-loop μ-loop
+part-requires c κs = search needs
+
+take-lines-requires : tie.Need-take-lines-requires Inv-loop μ-loop
+take-lines-requires c κs = search needs
 
 turns-left-requires : tie.Need-turns-left-requires Inv-loop μ-loop
 turns-left-requires c κs = search needs
@@ -27,10 +33,12 @@ loop-less : tie.Need-loop-less Inv-loop μ-loop
 loop-less c = search needs
 
 loop-again : tie.Need-loop-again Inv-loop μ-loop
-loop-again c = search needs
-
-finish-requires : tie.Need-finish-requires Inv-loop μ-loop
-finish-requires c κs = search needs
+loop-again c =
+    let t = c .before .before .before .before .before .before .before .before .before in
+    let n = t .before .before .before .before .before .before .before .before .before in
+    let i = n .before .before .before .loop .inv in
+    let k = t .take-lines .kept in
+    (k .1 .0 ∙ i .0, k .1 .1 .0 ∙ i .1, k .1 .1 .1 .0 ∙ i .2, n .next-piece .kept .0 ∙ i .3, k .1 .1 .1 .1 .1 .0 ∙ i .4)
 
 same-length : tie.Need-same-length Inv-loop μ-loop
 same-length c = search needs
@@ -47,9 +55,6 @@ same-length-4 c = search needs
 same-length-5 : tie.Need-same-length-5 Inv-loop μ-loop
 same-length-5 c = search needs
 
-same-length-6 : tie.Need-same-length-6 Inv-loop μ-loop
-same-length-6 c = search needs
-
 returns : tie.Need-returns Inv-loop μ-loop
 returns c = search needs
 
@@ -61,15 +66,15 @@ run-spec =
     μ-loop
     power-on-requires
     loop-holds
-    read-piece-requires
+    next-piece-requires
+    part-requires
+    take-lines-requires
     turns-left-requires
     loop-less
     loop-again
-    finish-requires
     same-length
     same-length-2
     same-length-3
     same-length-4
     same-length-5
-    same-length-6
     returns)

@@ -14,16 +14,10 @@ returns-2 : tie.Need-returns-2
 unfolding heldRows
 returns-2 c = simp (eq-eqb (length (c .before .before .before .args .state .now)) 32 (c .before .if1 .left), c .if2 .taken)
 
-flags-wrong-requires : tie.Need-flags-wrong-requires
-flags-wrong-requires c κs = search needs
-
-refuse-requires : tie.Need-refuse-requires
-refuse-requires c κs = search needs
-
 returns-3 : tie.Need-returns-3
 unfolding heldRows
 returns-3 c = simp (eq-eqb (length (c .before .before .before .before .before .args .state .now)) 32 (c .before .before .before .if1 .left), c .before .before .if2 .left, c .refuse .ensures, c .before .flags-wrong .ensures)
 
 pub held-code-spec : {M : Type 1} → statement M
 held-code-spec =
-    tie.close (tie.spec returns returns-2 flags-wrong-requires refuse-requires returns-3)
+    tie.close (tie.spec returns returns-2 (λ c κs. search needs) (λ c κs. search needs) returns-3)

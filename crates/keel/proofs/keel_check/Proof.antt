@@ -14,18 +14,6 @@ returns : tie.Need-returns
 unfolding checkAnswer reportAfter
 returns c = let n = ne-eqb (length (c .before .before .before .before .args .report .now)) 152 (c .if1 .taken) in (simp n, simp n)
 
-check-requires : tie.Need-check-requires
-check-requires c κs = search needs
-
-tell-requires : tie.Need-tell-requires
-tell-requires c κs = search needs
-
-cast-result : tie.Need-cast-result
-cast-result c = search needs
-
-same-length : tie.Need-same-length
-same-length c = search needs
-
 returns-2 : tie.Need-returns-2
 unfolding reportOf checkAnswer reportAfter
 returns-2 c = let a = c .before .before .before .before .before .before .before .before .before .args in
@@ -36,4 +24,4 @@ returns-2 c = let a = c .before .before .before .before .before .before .before 
 
 pub keel-check-spec : {M : Type 1} → statement M
 keel-check-spec =
-    tie.close (tie.spec returns check-requires tell-requires cast-result same-length returns-2)
+    tie.close (tie.spec returns (λ c κs. search needs) (λ c κs. search needs) (λ c. search needs) (λ c. search needs) returns-2)

@@ -1,75 +1,108 @@
--- `number` meets its contract, one law for each way out. Assumes nothing.
-use native.Mathlib.Omega.{arith}
-use mathlib.Core.Path.{sym, _∙_}
-use lib.ListN.{drop}
+-- `number` meets its contract: what is left of the digits, after the number so far, says what the whole does. Assumes nothing.
+use Prim.Native.Nat.{_+_, _-_, _≤_}
+use mathlib.Core.Path.{_≡_, sym, _∙_}
+use lib.ListN.{length, drop}
 use borrow.Author.Needs.{needs}
-use Rattle.line.proofs.ReadingLaws.{number-led, number-other, number-large, number-value, figure-below}
+use Rattle.line.specs.Reading.{numberOf}
+use Rattle.line.proofs.ReadingLaws.{readOn, read-on, read-low, read-high, read-large, read-end, number-none, number-led, number-read}
 use Rattle.line.proofs.number.Statement.{statement}
 use Rattle.line.proofs.number.Tie as tie
 
-zero-leads-requires : tie.Need-zero-leads-requires
+abbrev Inv-loop : tie.InvT-loop
+Inv-loop s from n₀ i₀ n i = (i ≤ length s) × (n ≤ 65535) × (readOn n (drop i s) ≡ numberOf (drop from s))
+
+abbrev μ-loop : tie.MeasureT-loop
+μ-loop s from n₀ i₀ n i = length s - i
+
+returns : tie.Need-returns Inv-loop μ-loop
+returns c = number-none (c .before .before .args .s .now) (c .before .before .args .from) (c .if1 .taken)
+
+zero-leads-requires : tie.Need-zero-leads-requires Inv-loop μ-loop
 zero-leads-requires c κs = search needs
 
-returns : tie.Need-returns
-returns c =
-    let c₃ = c .before .before .before in
-    let a = c₃ .args in
-    number-led (drop (a .from) (a .s .now)) (sym (c .before .zero-leads .ensures) ∙ c .if1 .taken)
-
-figures-requires : tie.Need-figures-requires
-figures-requires c κs = search needs
-
-enum-told : tie.Need-enum-told
-enum-told c = search needs
-
-enum-known-read : tie.Need-enum-known-read
-enum-known-read c = search needs
-
-returns-2 : tie.Need-returns-2
+returns-2 : tie.Need-returns-2 Inv-loop μ-loop
 returns-2 c =
-    let c₂ = c .before .before in
-    let c₄ = c₂ .before .before in
-    let c₅ = c₄ .before in
-    let c₆ = c₅ .before in
-    let c₈ = c₆ .before .before in
-    let a = c₈ .args in
-    number-large (drop (a .from) (a .s .now)) (c₂ .read .given .0 .0) (sym (c₆ .zero-leads .ensures) ∙ c₅ .if1 .left) (sym (c₄ .figures .ensures) ∙ c₂ .read .given .1) (c .if2 .taken)
+    let a = c .before .before .before .before .args in
+    number-led (a .s .now) (a .from) (sym (c .before .zero-leads .ensures) ∙ c .if2 .taken)
 
-cast-t8 : tie.Need-cast-t8
-cast-t8 c =
-    let c₂ = c .before .before in
-    let c₄ = c₂ .before .before in
-    let c₈ = c₄ .before .before .before .before in
-    let a = c₈ .args in
-    omega (arith, figure-below (drop (a .from) (a .s .now)) (c₂ .read .given .0 .0) (sym (c₄ .figures .ensures) ∙ c₂ .read .given .1))
+loop-holds : tie.Need-loop-holds Inv-loop μ-loop
+loop-holds c =
+    let a = c .before .before .before .before .args in
+    (search needs, search needs, number-read (a .s .now) (a .from) (c .before .before .if1 .left) (sym (c .before .zero-leads .ensures) ∙ c .if2 .left))
 
-returns-3 : tie.Need-returns-3
+shared-slice-read-b : tie.Need-shared-slice-read-b Inv-loop μ-loop
+shared-slice-read-b c = search needs
+
+returns-3 : tie.Need-returns-3 Inv-loop μ-loop
 returns-3 c =
-    let c₂ = c .before .before in
-    let c₆ = c₂ .before .before .before .before in
-    let a = c₆ .args in
-    number-other (drop (a .from) (a .s .now)) (sym (c₂ .figures .ensures) ∙ c .enum-told .given .1)
+    let t = c .before .before in
+    let l = t .before .loop in
+    let s = t .before .before .before .before .before .before .args .s .now in
+    sym (read-low s (l .i) (l .n) (t .loop-test .taken) (c .if3 .taken)) ∙ l .inv .2
 
-returns-4 : tie.Need-returns-4
+returns-4 : tie.Need-returns-4 Inv-loop μ-loop
 returns-4 c =
-    let c₂ = c .before .before in
-    let c₄ = c₂ .before .before in
-    let c₅ = c₄ .before in
-    let c₆ = c₅ .before in
-    let c₈ = c₆ .before .before in
-    let a = c₈ .args in
-    number-value (drop (a .from) (a .s .now)) (c₂ .read .given .0 .0) (sym (c₆ .zero-leads .ensures) ∙ c₅ .if1 .left) (sym (c₄ .figures .ensures) ∙ c₂ .read .given .1) (c .if2 .left)
+    let t = c .before .before .before in
+    let l = t .before .loop in
+    let s = t .before .before .before .before .before .before .args .s .now in
+    sym (read-high s (l .i) (l .n) (t .loop-test .taken) (c .before .if3 .left) (c .if4 .taken)) ∙ l .inv .2
+
+mul-n : tie.Need-mul-n Inv-loop μ-loop
+mul-n c = search needs
+
+cast-n : tie.Need-cast-n Inv-loop μ-loop
+cast-n c = search needs
+
+add-n : tie.Need-add-n Inv-loop μ-loop
+add-n c = search needs
+
+returns-5 : tie.Need-returns-5 Inv-loop μ-loop
+returns-5 c =
+    let t = c .before .before .before .before in
+    let l = t .before .loop in
+    let s = t .before .before .before .before .before .before .args .s .now in
+    sym (read-large _ (drop (l .i + 1) s) (c .if5 .taken)) ∙ read-on s (l .i) (l .n) (t .loop-test .taken) (c .before .before .if3 .left) (c .before .if4 .left) ∙ l .inv .2
+
+add-i : tie.Need-add-i Inv-loop μ-loop
+add-i c = search needs
+
+loop-less : tie.Need-loop-less Inv-loop μ-loop
+loop-less c = search needs
+
+loop-again : tie.Need-loop-again Inv-loop μ-loop
+loop-again c =
+    let t = c .before .before .before .before in
+    let l = t .before .loop in
+    let s = t .before .before .before .before .before .before .args .s .now in
+    (search needs, c .if5 .left, read-on s (l .i) (l .n) (t .loop-test .taken) (c .before .before .if3 .left) (c .before .if4 .left) ∙ l .inv .2)
+
+cast-t15 : tie.Need-cast-t15 Inv-loop μ-loop
+cast-t15 c = search needs
+
+returns-6 : tie.Need-returns-6 Inv-loop μ-loop
+returns-6 c =
+    let l = c .before .loop in
+    sym (read-end (c .before .before .before .before .before .before .args .s .now) (l .i) (l .n) (c .loop-test .left) (l .inv .1)) ∙ l .inv .2
 
 pub number-spec : {M : Type 1} → statement M
 number-spec =
     tie.close
     (tie.spec
-    zero-leads-requires
+    Inv-loop
+    μ-loop
     returns
-    figures-requires
-    enum-told
-    enum-known-read
+    zero-leads-requires
     returns-2
-    cast-t8
+    loop-holds
+    shared-slice-read-b
     returns-3
-    returns-4)
+    returns-4
+    mul-n
+    cast-n
+    add-n
+    returns-5
+    add-i
+    loop-less
+    loop-again
+    cast-t15
+    returns-6)

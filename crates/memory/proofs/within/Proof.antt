@@ -7,9 +7,6 @@ use Rattle.memory.proofs.within.Tie as tie
 returns : tie.Need-returns
 returns c = let a = c .before .args in below-table (a .first) (a .size) (a .at) (a .len) (c .if1 .taken)
 
-cast-offset : tie.Need-cast-offset
-cast-offset c = search needs
-
 returns-2 : tie.Need-returns-2
 returns-2 c = let a = c .before .before .args in past-table (a .first) (a .size) (a .at) (a .len) (c .before .if1 .left) (c .if2 .taken)
 
@@ -17,4 +14,4 @@ returns-3 : tie.Need-returns-3
 returns-3 c = let a = c .before .before .args in has-room (a .first) (a .size) (a .at) (a .len) (c .before .if1 .left) (c .if2 .left)
 
 pub within-spec : {M : Type 1} → statement M
-within-spec = tie.close (tie.spec returns cast-offset returns-2 returns-3)
+within-spec = tie.close (tie.spec returns (λ c. search needs) returns-2 returns-3)

@@ -3,11 +3,8 @@ use borrow.Author.Needs.{needs}
 use Rattle.runner.proofs.full.Statement.{statement}
 use Rattle.runner.proofs.full.Tie as tie
 
-set-of-requires : tie.Need-set-of-requires
-set-of-requires c κs = search needs
-
 returns : tie.Need-returns
 returns c = simp (c .set-of .ensures)
 
 pub full-spec : {M : Type 1} → statement M
-full-spec = tie.close (tie.spec set-of-requires returns)
+full-spec = tie.close (tie.spec (λ c κs. search needs) returns)

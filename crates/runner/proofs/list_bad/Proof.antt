@@ -7,17 +7,8 @@ use borrow.Author.Needs.{needs}
 use Rattle.runner.proofs.list_bad.Statement.{statement}
 use Rattle.runner.proofs.list_bad.Tie as tie
 
-list-requires : tie.Need-list-requires
-list-requires c κs = search needs
-
-list-test-requires : tie.Need-list-test-requires
-list-test-requires c κs = search needs
-
 enum-told : tie.Need-enum-told
 enum-told c = search needs
-
-enum-told-2 : tie.Need-enum-told-2
-enum-told-2 c = search needs
 
 returns : tie.Need-returns
 returns c = let b = c .before .before in ap (λ (x : ListTest). not (isGood x)) (sym (c .enum-told .given .1) ∙ b .list-test .ensures ∙ ap listTest (b .before .list .ensures))
@@ -27,4 +18,4 @@ returns-2 c = let b = c .before .before in ap (λ (x : ListTest). not (isGood x)
 
 pub list-bad-spec : {M : Type 1} → statement M
 list-bad-spec =
-    tie.close (tie.spec list-requires list-test-requires enum-told enum-told-2 returns returns-2)
+    tie.close (tie.spec (λ c κs. search needs) (λ c κs. search needs) enum-told (λ c. search needs) returns returns-2)

@@ -1,47 +1,31 @@
--- The code's rows are the definition's rows.
-use Rattle.runner.specs.Judge.{rasterRows}
+-- Four tables, one after the other.
+use mathlib.Core.List.{List, _++_}
+use Rattle.octets.specs.Rows.{Row}
+use Rattle.sequence.specs.Env.{envOf}
+use Rattle.runner.specs.Judge.{countRows, listRows, pathRows, flagRows, rasterRows}
+use Rattle.octets.proofs.Laws.{first-joined}
 use borrow.Author.Needs.{needs}
 use Rattle.runner.proofs.raster_fault.Statement.{statement}
 use Rattle.runner.proofs.raster_fault.Tie as tie
 
-list-bad-requires : tie.Need-list-bad-requires
-list-bad-requires c κs = search needs
-
-path-fault-requires : tie.Need-path-fault-requires
-path-fault-requires c κs = search needs
-
-refuse-requires : tie.Need-refuse-requires
-refuse-requires c κs = search needs
-
-refuse-requires-2 : tie.Need-refuse-requires-2
-refuse-requires-2 c κs = search needs
-
-refuse-requires-3 : tie.Need-refuse-requires-3
-refuse-requires-3 c κs = search needs
-
-refuse-requires-4 : tie.Need-refuse-requires-4
-refuse-requires-4 c κs = search needs
-
-refuse-requires-5 : tie.Need-refuse-requires-5
-refuse-requires-5 c κs = search needs
-
-refuse-requires-6 : tie.Need-refuse-requires-6
-refuse-requires-6 c κs = search needs
-
 returns : tie.Need-returns
-unfolding rasterRows
-returns c = simp (c .refuse6 .ensures, c .before .refuse5 .ensures, c .before .before .refuse4 .ensures, c .before .before .before .refuse3 .ensures, c .before .before .before .before .refuse2 .ensures, c .before .before .before .before .before .refuse .ensures, c .before .before .before .before .before .before .path-fault .ensures, c .before .before .before .before .before .before .before .list-bad .ensures)
+unfolding rasterRows pathRows
+returns c =
+    let a = c .before .before .before .before .before .before .before .before .args in
+    let ends : List Row = pathRows (a .raster) ++ flagRows (a .raster) in
+    first-joined (countRows (a .raster)) (listRows (envOf (a .lists .now)) (a .raster) ++ ends) tt _ _ _ (c .refuse3 .ensures) (c .before .before .before .before .before .before .count-fault .ensures)
+    (first-joined (listRows (envOf (a .lists .now)) (a .raster)) ends tt _ _ _ (c .before .refuse2 .ensures) (c .before .before .before .before .before .list-fault .ensures)
+    (first-joined (pathRows (a .raster)) (flagRows (a .raster)) tt _ _ _ (c .before .before .refuse .ensures) (c .before .before .before .before .path-fault .ensures) (c .before .before .before .flag-fault .ensures)))
 
 pub raster-fault-spec : {M : Type 1} → statement M
 raster-fault-spec =
     tie.close
     (tie.spec
-    list-bad-requires
-    path-fault-requires
-    refuse-requires
-    refuse-requires-2
-    refuse-requires-3
-    refuse-requires-4
-    refuse-requires-5
-    refuse-requires-6
+    (λ c κs. search needs)
+    (λ c κs. search needs)
+    (λ c κs. search needs)
+    (λ c κs. search needs)
+    (λ c κs. search needs)
+    (λ c κs. search needs)
+    (λ c κs. search needs)
     returns)

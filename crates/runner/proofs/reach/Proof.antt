@@ -8,17 +8,11 @@ use Rattle.runner.proofs.reach.Tie as tie
 returns : tie.Need-returns
 returns c = let a = c .before .args in reach-none (a .initial) (a .loops) (a .step) (c .if1 .taken)
 
-sub-result : tie.Need-sub-result
-sub-result c = search needs
-
 mul-result : tie.Need-mul-result
 mul-result c = let a = c .before .args in record { fits = omega (arith, reach-fits (a .loops) (a .step) (search needs) (search needs)) }
 
 add-result : tie.Need-add-result
 add-result c = let a = c .before .args in omega (arith, reach-fits (a .loops) (a .step) (search needs) (search needs))
 
-returns-2 : tie.Need-returns-2
-returns-2 c = search needs
-
 pub reach-spec : {M : Type 1} → statement M
-reach-spec = tie.close (tie.spec returns sub-result mul-result add-result returns-2)
+reach-spec = tie.close (tie.spec returns (λ c. search needs) mul-result add-result (λ c. search needs))

@@ -4,9 +4,6 @@ use borrow.Author.Needs.{needs}
 use Rattle.runner.proofs.set_of.Statement.{statement}
 use Rattle.runner.proofs.set_of.Tie as tie
 
-exposures-at-requires : tie.Need-exposures-at-requires
-exposures-at-requires c κs = search needs
-
 returns : tie.Need-returns
 returns c = simp (← c .before .exposures-at .ensures, le-leb _ _ (c .if1 .taken))
 
@@ -14,4 +11,4 @@ returns-2 : tie.Need-returns-2
 returns-2 c = simp (← c .before .exposures-at .ensures, lt-leb _ _ (c .if1 .left))
 
 pub set-of-spec : {M : Type 1} → statement M
-set-of-spec = tie.close (tie.spec exposures-at-requires returns returns-2)
+set-of-spec = tie.close (tie.spec (λ c κs. search needs) returns returns-2)

@@ -4,12 +4,9 @@ use borrow.Author.Needs.{needs}
 use Rattle.sequence.proofs.exposures_at.Statement.{statement}
 use Rattle.sequence.proofs.exposures_at.Tie as tie
 
-byte-after-requires : tie.Need-byte-after-requires
-byte-after-requires c κs = search needs
-
 returns : tie.Need-returns
 unfolding rasterAt
 returns c = cc
 
 pub exposures-at-spec : {M : Type 1} → statement M
-exposures-at-spec = tie.close (tie.spec byte-after-requires returns)
+exposures-at-spec = tie.close (tie.spec (λ c κs. search needs) returns)

@@ -5,22 +5,13 @@ use Rattle.sequence.specs.Text.{headerOf, headerRows}
 use Rattle.sequence.proofs.header_of.Statement.{statement}
 use Rattle.sequence.proofs.header_of.Tie as tie
 
-length-good-requires : tie.Need-length-good-requires
-length-good-requires c κs = search needs
-
 returns : tie.Need-returns
 unfolding headerOf headerRows
 returns c = simp (← c .before .length-good .ensures, c .if1 .taken)
 
-xor-good-requires : tie.Need-xor-good-requires
-xor-good-requires c κs = search needs
-
 returns-2 : tie.Need-returns-2
 unfolding headerOf headerRows
 returns-2 c = simp (← c .before .before .before .length-good .ensures, c .before .before .if1 .left, ← c .before .xor-good .ensures, c .if2 .taken)
-
-byte-requires : tie.Need-byte-requires
-byte-requires c κs = search needs
 
 returns-3 : tie.Need-returns-3
 unfolding headerOf headerRows
@@ -36,10 +27,10 @@ pub header-of-spec : {M : Type 1} → statement M
 header-of-spec =
     tie.close
     (tie.spec
-    length-good-requires
+    (λ c κs. search needs)
     returns
-    xor-good-requires
+    (λ c κs. search needs)
     returns-2
-    byte-requires
+    (λ c κs. search needs)
     returns-3
     returns-4)

@@ -5,12 +5,6 @@ use Rattle.sequence.specs.Text.{limit}
 use Rattle.sequence.proofs.limit.Statement.{statement}
 use Rattle.sequence.proofs.limit.Tie as tie
 
-byte-requires : tie.Need-byte-requires
-byte-requires c κs = search needs
-
-sub-result : tie.Need-sub-result
-sub-result c = search needs
-
 returns : tie.Need-returns
 unfolding limit
 returns c = omega arith
@@ -20,4 +14,4 @@ unfolding limit
 returns-2 c = omega arith
 
 pub limit-spec : {M : Type 1} → statement M
-limit-spec = tie.close (tie.spec byte-requires sub-result returns returns-2)
+limit-spec = tie.close (tie.spec (λ c κs. search needs) (λ c. search needs) returns returns-2)

@@ -9,18 +9,9 @@ returns : tie.Need-returns
 unfolding noneThere
 returns c = simp (lt-ltb _ _ (c .if1 .taken))
 
-length-good-requires : tie.Need-length-good-requires
-length-good-requires c κs = search needs
-
 returns-2 : tie.Need-returns-2
 unfolding noneThere
 returns-2 c = simp (le-ltb _ _ (c .before .before .if1 .left), ← c .before .length-good .ensures, c .if2 .taken)
-
-limit-requires : tie.Need-limit-requires
-limit-requires c κs = search needs
-
-cast-result : tie.Need-cast-result
-cast-result c = search needs
 
 returns-3 : tie.Need-returns-3
 unfolding noneThere
@@ -28,5 +19,4 @@ returns-3 c = simp (le-ltb _ _ (c .before .before .before .if1 .left), ← c .be
 
 pub none-there-spec : {M : Type 1} → statement M
 none-there-spec =
-    tie.close
-    (tie.spec returns length-good-requires returns-2 limit-requires cast-result returns-3)
+    tie.close (tie.spec returns (λ c κs. search needs) returns-2 (λ c κs. search needs) (λ c. search needs) returns-3)

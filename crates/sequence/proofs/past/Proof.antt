@@ -1,43 +1,16 @@
--- The definition read from the inside out.
-use Rattle.sequence.specs.Text.{sizeAt}
+-- A size that is not 0 ends inside the text.
+use native.Mathlib.Omega.{arith}
+use mathlib.Core.Logic.{⊎-elim}
 use borrow.Author.Needs.{needs}
+use Rattle.sequence.proofs.Laws.{size-whole}
 use Rattle.sequence.proofs.past.Statement.{statement}
 use Rattle.sequence.proofs.past.Tie as tie
 
-number-requires : tie.Need-number-requires
-number-requires c κs = search needs
-
-cast-result : tie.Need-cast-result
-cast-result c = search needs
-
-command-at-requires : tie.Need-command-at-requires
-command-at-requires c κs = search needs
-
-number-of-requires : tie.Need-number-of-requires
-number-of-requires c κs = search needs
-
-size-of-requires : tie.Need-size-of-requires
-size-of-requires c κs = search needs
-
-cast-result-2 : tie.Need-cast-result-2
-cast-result-2 c = search needs
-
 add-result : tie.Need-add-result
-add-result c = search needs
+add-result c = ⊎-elim (λ e. omega arith) (λ w. omega arith) (size-whole (c .before .before .before .args .text .now) (c .before .index .result))
 
 returns : tie.Need-returns
-unfolding sizeAt
 returns c = cc
 
 pub past-spec : {M : Type 1} → statement M
-past-spec =
-    tie.close
-    (tie.spec
-    number-requires
-    cast-result
-    command-at-requires
-    number-of-requires
-    size-of-requires
-    cast-result-2
-    add-result
-    returns)
+past-spec = tie.close (tie.spec (λ c κs. search needs) (λ c κs. search needs) add-result returns)

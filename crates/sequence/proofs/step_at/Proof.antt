@@ -4,12 +4,9 @@ use borrow.Author.Needs.{needs}
 use Rattle.sequence.proofs.step_at.Statement.{statement}
 use Rattle.sequence.proofs.step_at.Tie as tie
 
-word-after-requires : tie.Need-word-after-requires
-word-after-requires c κs = search needs
-
 returns : tie.Need-returns
 unfolding rasterAt
 returns c = cc
 
 pub step-at-spec : {M : Type 1} → statement M
-step-at-spec = tie.close (tie.spec word-after-requires returns)
+step-at-spec = tie.close (tie.spec (λ c κs. search needs) returns)

@@ -1,52 +1,74 @@
--- Each test of the code is one of the definition's three, over the starts from place 4.
-use borrow.Author.Tests.{lt-ltb, le-ltb, not-true, not-false}
+-- What is found from here is what is found from place 4, as long as the raster lies ahead. The measure is what is left of the text.
+use native.Mathlib.Omega.{arith}
+use Prim.Native.Nat.{_-_}
+use mathlib.Core.Path.{_≡_, sym, _∙_}
+use mathlib.Core.Bool.{false}
+use lib.ListN.{length}
+use borrow.Author.Tests.{lt-ltb, le-ltb}
 use borrow.Author.Needs.{needs}
 use Rattle.sequence.specs.Starts.{targetGood, startsOf}
+use Rattle.sequence.proofs.Laws.{next-inside}
+use Rattle.sequence.proofs.Targets.{leads, leads-off, leads-before}
 use Rattle.sequence.proofs.target_good.Statement.{statement}
 use Rattle.sequence.proofs.target_good.Tie as tie
 
-number-requires : tie.Need-number-requires
-number-requires c κs = search needs
+abbrev Inv-loop : tie.InvT-loop
+Inv-loop text q t raster target at₀ at = targetGood text raster (q .0) t ≡ leads text raster (q .0) t false at
 
-cast-from : tie.Need-cast-from
-cast-from c = search needs
+abbrev μ-loop : tie.MeasureT-loop
+μ-loop text q t raster target at₀ at = length text - at
 
-number-requires-2 : tie.Need-number-requires-2
-number-requires-2 c κs = search needs
+index-requires : tie.Need-index-requires Inv-loop μ-loop
+index-requires c κs = search needs
 
-cast-back : tie.Need-cast-back
-cast-back c = search needs
+returns : tie.Need-returns Inv-loop μ-loop
+unfolding targetGood
+returns c = simp (← c .before .index .ensures .0, le-ltb _ _ (c .if1 .taken))
 
-returns : tie.Need-returns
+loop-holds : tie.Need-loop-holds Inv-loop μ-loop
 unfolding targetGood startsOf
-returns c = simp (← c .before .before .number .ensures, le-ltb _ _ (c .if1 .taken))
+loop-holds c = rw (lt-ltb _ _ (c .if1 .left))
 
-start-from-requires : tie.Need-start-from-requires
-start-from-requires c κs = search needs
+size-at-requires : tie.Need-size-at-requires Inv-loop μ-loop
+size-at-requires c κs = search needs
 
-returns-2 : tie.Need-returns-2
-unfolding targetGood startsOf
-returns-2 c = let b = c .before .before in let s = c .before .start-from in
-    simp (← b .before .before .number .ensures, lt-ltb _ _ (b .if1 .left), ← s .ensures, not-true (s .result) (c .if2 .taken))
+returns-2 : tie.Need-returns-2 Inv-loop μ-loop
+returns-2 c = let l = c .before .before .before .loop in
+    rw (← c .before .before .before .before .before .index .ensures .0) (sym (l .inv ∙ leads-off _ _ _ _ false (l .at) _ (omega arith) (c .before .size-at .ensures) (c .if2 .taken)))
 
-exposure-from-requires : tie.Need-exposure-from-requires
-exposure-from-requires c κs = search needs
+add-at : tie.Need-add-at Inv-loop μ-loop
+add-at c = omega (arith, next-inside _ _ _ (c .before .size-at .ensures) (c .if2 .left))
 
-returns-3 : tie.Need-returns-3
-unfolding targetGood startsOf
-returns-3 c = let b = c .before .before .before in let s = c .before .before .start-from in
-    simp (← b .before .before .number .ensures, ← b .before .number2 .ensures, lt-ltb _ _ (b .if1 .left), ← s .ensures, not-false (s .result) (c .before .if2 .left), c .exposure-from .ensures)
+loop-less : tie.Need-loop-less Inv-loop μ-loop
+loop-less c = omega (arith, next-inside _ _ _ (c .before .size-at .ensures) (c .if2 .left))
+
+loop-again : tie.Need-loop-again Inv-loop μ-loop
+loop-again c = let l = c .before .before .before .loop in
+    l .inv ∙ leads-before _ _ _ _ (l .at) _ (c .before .size-at .ensures) (c .if2 .left) (c .before .before .before .before .if1 .left) (c .before .before .loop-test .taken)
+
+index-requires-2 : tie.Need-index-requires-2 Inv-loop μ-loop
+index-requires-2 c κs = search needs
+
+leads-to-exposure-requires : tie.Need-leads-to-exposure-requires Inv-loop μ-loop
+leads-to-exposure-requires c κs = omega arith
+
+returns-3 : tie.Need-returns-3 Inv-loop μ-loop
+returns-3 c = rw (← c .before .before .before .before .before .index .ensures .0, ← c .before .index2 .ensures .0) (c .leads-to-exposure .ensures _ (c .before .before .loop-test .left) ∙ rw (c .before .index2 .ensures .0) (sym (c .before .before .before .loop .inv)))
 
 pub target-good-spec : {M : Type 1} → statement M
 target-good-spec =
     tie.close
     (tie.spec
-    number-requires
-    cast-from
-    number-requires-2
-    cast-back
+    Inv-loop
+    μ-loop
+    index-requires
     returns
-    start-from-requires
+    loop-holds
+    size-at-requires
     returns-2
-    exposure-from-requires
+    add-at
+    loop-less
+    loop-again
+    index-requires-2
+    leads-to-exposure-requires
     returns-3)

@@ -2,10 +2,10 @@
 -- Assumes nothing.
 use borrow.Author.Needs.{needs}
 use native.Mathlib.Omega.{arith}
-use mathlib.Core.Path.{sym, subst, _∙_}
+use mathlib.Core.Path.{subst}
 use Rattle.sequence.specs.Env.{envOf}
 use Rattle.survey.specs.Held.{LowCall, unmarked}
-use Rattle.survey.proofs.Chains.{close-stop, close-back, close-next, text-short, seq-fault, next-low, next-fits, next-kept, next-fewer, seq-next}
+use Rattle.survey.proofs.Chains.{room, Visit, of-entry, close-stop, close-back, close-next, seq-fault, next-low, next-fits, next-kept, next-fewer, seq-next}
 use Prim.Native.Nat.{ℕ, _+_, _<_}
 use borrow.Fn.Kinds.{In}
 use borrow.Fn.PlainCycle.{Measures, is, falls, and}
@@ -16,12 +16,7 @@ use Rattle.survey.proofs.check_sequence.Reads as check-sequence
 use Rattle.survey.proofs.check_sequence.Kinds as check-sequence-kinds
 use Rattle.survey.proofs.+check_closing+check_sequence.Lts-check_sequence as check-sequence-lts
 use Rattle.memory.proofs.entry.Reads as entry-reads
-use Rattle.survey.proofs.add.Reads as add-reads
 use Rattle.survey.proofs.check_one.Reads as check-one-reads
-use Rattle.survey.proofs.end.Reads as end-reads
-use Rattle.survey.proofs.enter.Reads as enter-reads
-use Rattle.survey.proofs.fault.Reads as fault-reads
-use Rattle.survey.proofs.marked.Reads as marked-reads
 use Rattle.survey.proofs.+check_closing+check_sequence.{statement}
 use Rattle.survey.proofs.+check_closing+check_sequence.Tie.{close}
 
@@ -59,83 +54,87 @@ check-sequence-below t =
     (falls 2 check-sequence-kinds.ps _<_ μ-check-sequence t)
     check-sequence.Pre
 
--- the readings of what it calls
+-- the readings of what they call
 abbrev check-closing-calls : ℕ → check-closing-lts.Claims
-check-closing-calls t = (end-reads.Asked, end-reads.Learnt, marked-reads.Asked, marked-reads.Learnt, check-sequence-below t, check-sequence.Post)
+check-closing-calls t = (check-sequence-below t, check-sequence.Post)
 
--- the readings of what it calls
 abbrev check-sequence-calls : ℕ → check-sequence-lts.Claims
-check-sequence-calls t = (enter-reads.Asked, enter-reads.Learnt, entry-reads.Asked, entry-reads.Learnt, check-one-reads.Asked, check-one-reads.Learnt, fault-reads.Asked, fault-reads.Learnt, add-reads.Asked, add-reads.Learnt, check-closing-below t, check-closing.Post)
+check-sequence-calls t = (entry-reads.Asked, entry-reads.Learnt, check-one-reads.Asked, check-one-reads.Learnt, check-closing-below t, check-closing.Post)
 
 check-closing-enum-told : (t : ℕ) → check-closing-lts.Need-enum-told (check-closing-calls t) (check-closing-at t) check-closing.Post
 check-closing-enum-told t c = search needs
 
-check-closing-end-requires : (t : ℕ) → check-closing-lts.Need-end-requires (check-closing-calls t) (check-closing-at t) check-closing.Post
-check-closing-end-requires t c κs = search needs
-
 check-closing-enum-known-closing : (t : ℕ) → check-closing-lts.Need-enum-known-closing (check-closing-calls t) (check-closing-at t) check-closing.Post
 check-closing-enum-known-closing t c = search needs
 
-check-closing-marked-requires : (t : ℕ) → check-closing-lts.Need-marked-requires (check-closing-calls t) (check-closing-at t) check-closing.Post
-check-closing-marked-requires t c κs = let k = c in let s = k .before .before .before .before .before in let a = s .args in
-    ((subst LowCall (k .before .closing .given .1) (s .pre .1 .1)), s .pre .1 .0 .marks-long)
+check-closing-cast-mark : (t : ℕ) → check-closing-lts.Need-cast-mark (check-closing-calls t) (check-closing-at t) check-closing.Post
+check-closing-cast-mark t c = search needs
 
-check-closing-end-requires-2 : (t : ℕ) → check-closing-lts.Need-end-requires-2 (check-closing-calls t) (check-closing-at t) check-closing.Post
-check-closing-end-requires-2 t c κs = search needs
+check-closing-element-copy-out-if1 : (t : ℕ) → check-closing-lts.Need-element-copy-out-if1 (check-closing-calls t) (check-closing-at t) check-closing.Post
+check-closing-element-copy-out-if1 t c = let s = c .before .before .before .before .before in let a = s .args in let l = (subst LowCall (c .before .closing .given .1) (s .pre .1 .1)) in omega (arith, s .pre .1 .0 .marks-long)
 
 check-closing-returns : (t : ℕ) → check-closing-lts.Need-returns (check-closing-calls t) (check-closing-at t) check-closing.Post
-check-closing-returns t c = let k = c .before .before .before in let s = k .before .before .before .before .before in let a = s .args in
-    close-back (envOf (a .lists .now)) (a .seqs .now) (a .chain) (a .closing) _ _ (k .before .closing .given .1) (subst LowCall (k .before .closing .given .1) (s .pre .1 .1)) (sym (c .before .before .marked .ensures) ∙ c .before .if1 .taken) (c .end2 .ensures)
+check-closing-returns t c = let s = c .before .before .before .before .before .before .before in let a = s .args in close-back (envOf (a .lists .now)) (a .seqs .now) (a .t3) (a .closing) _ (c .before .before .before .closing .given .1) (subst LowCall (c .before .before .before .closing .given .1) (s .pre .1 .1)) (c .if1 .taken)
 
 check-closing-check-sequence-requires : (t : ℕ) → check-closing-lts.Need-check-sequence-requires (check-closing-calls t) (check-closing-at t) check-closing.Post
-check-closing-check-sequence-requires t c κs = let k = c .before .before in let s = k .before .before .before .before .before in let a = s .args in
-    (omega (arith, s .pre .0), record { kept = s .pre .1 .0; low = (subst LowCall (k .before .closing .given .1) (s .pre .1 .1)); new = sym (c .before .marked .ensures) ∙ c .if1 .left })
+check-closing-check-sequence-requires t c κs = let s = c .before .before .before .before .before .before .before in let a = s .args in (omega (arith, s .pre .0), record { kept = s .pre .1 .0; low = (subst LowCall (c .before .before .before .closing .given .1) (s .pre .1 .1)); new = c .if1 .left })
 
 check-closing-returns-2 : (t : ℕ) → check-closing-lts.Need-returns-2 (check-closing-calls t) (check-closing-at t) check-closing.Post
-check-closing-returns-2 t c = let a = c .before .before .before .before .before .args in close-stop (envOf (a .lists .now)) (a .seqs .now) (a .chain) (a .closing) _ (c .before .enum-told .given .1) (c .end .ensures)
+check-closing-returns-2 t c = let s = c .before .before .before .before in let a = s .args in close-stop (envOf (a .lists .now)) (a .seqs .now) (a .t3) (a .closing) (c .enum-told .given .1)
 
 check-closing-returns-3 : (t : ℕ) → check-closing-lts.Need-returns-3 (check-closing-calls t) (check-closing-at t) check-closing.Post
-check-closing-returns-3 t c = let k = c .before .before .before in let s = k .before .before .before .before .before in let a = s .args in
-    close-next (envOf (a .lists .now)) (a .seqs .now) (a .chain) (a .closing) _ _ (k .before .closing .given .1) (c .check-sequence .ensures)
+check-closing-returns-3 t c = let s = c .before .before .before .before .before .before .before .before in let a = s .args in close-next (envOf (a .lists .now)) (a .seqs .now) (a .t3) (a .closing) _ (c .before .before .before .before .closing .given .1) _ (c .check-sequence .ensures)
 
-check-sequence-enter-requires : (t : ℕ) → check-sequence-lts.Need-enter-requires (check-sequence-calls t) (check-sequence-at t) check-sequence.Post
-check-sequence-enter-requires t c κs = c .before .before .pre .1
+-- what is known past the check of the sequence's own text
+module _ (t : ℕ) (w : check-sequence-lts.After-check-one (check-sequence-calls t) (check-sequence-at t) check-sequence.Post) where
+  abbrev start : check-sequence-lts.Start (check-sequence-calls t) (check-sequence-at t) check-sequence.Post
+  start = w .before .before .before .before
+
+  visit : Visit (start .args .lists .now) (start .args .seqs .now) (start .args .t4) (start .args .n) (w .check-one .result)
+  visit =
+      record {
+        octets = λ k. w .before .before .before .shared-slice-known .given k .fits;
+        free = start .pre .1;
+        found = of-entry (start .args .lists .now) (start .args .seqs .now) (start .args .n) _ _ (w .before .entry .ensures) (w .check-one .ensures);
+      }
+
+check-sequence-element-write-chain : (t : ℕ) → check-sequence-lts.Need-element-write-chain (check-sequence-calls t) (check-sequence-at t) check-sequence.Post
+check-sequence-element-write-chain t c = let s = c .before .before in let r = room (s .args .t4) (s .args .n) (s .pre .1) in omega (arith, s .pre .1 .kept .listed-long)
+
+check-sequence-element-write-chain-2 : (t : ℕ) → check-sequence-lts.Need-element-write-chain-2 (check-sequence-calls t) (check-sequence-at t) check-sequence.Post
+check-sequence-element-write-chain-2 t c = let s = c .before .before in omega (arith, s .pre .1 .kept .marks-long, s .pre .1 .low)
+
+check-sequence-add-chain : (t : ℕ) → check-sequence-lts.Need-add-chain (check-sequence-calls t) (check-sequence-at t) check-sequence.Post
+check-sequence-add-chain t c = let s = c .before .before in let r = room (s .args .t4) (s .args .n) (s .pre .1) in omega arith
 
 check-sequence-entry-requires : (t : ℕ) → check-sequence-lts.Need-entry-requires (check-sequence-calls t) (check-sequence-at t) check-sequence.Post
 check-sequence-entry-requires t c κs = search needs
 
 check-sequence-check-one-requires : (t : ℕ) → check-sequence-lts.Need-check-one-requires (check-sequence-calls t) (check-sequence-at t) check-sequence.Post
-check-sequence-check-one-requires t c κs = let a = c .before .before .before .before .args in text-short (a .seqs .now) (a .n) _ (c .entry .ensures)
+check-sequence-check-one-requires t c κs = search needs
 
 check-sequence-enum-known-place : (t : ℕ) → check-sequence-lts.Need-enum-known-place (check-sequence-calls t) (check-sequence-at t) check-sequence.Post
 check-sequence-enum-known-place t c = search needs
 
-check-sequence-fault-requires : (t : ℕ) → check-sequence-lts.Need-fault-requires (check-sequence-calls t) (check-sequence-at t) check-sequence.Post
-check-sequence-fault-requires t c κs = search needs
-
 check-sequence-enum-known-closing : (t : ℕ) → check-sequence-lts.Need-enum-known-closing (check-sequence-calls t) (check-sequence-at t) check-sequence.Post
 check-sequence-enum-known-closing t c = search needs
 
-check-sequence-add-requires : (t : ℕ) → check-sequence-lts.Need-add-requires (check-sequence-calls t) (check-sequence-at t) check-sequence.Post
-check-sequence-add-requires t c κs = let w = c .before .before .before in let s = w .before .before .before .before .before in let a = s .args in
-    next-fits (a .lists .now) (a .seqs .now) (λ k. w .before .before .before .before .shared-slice-known .given k .fits) (a .chain) (a .n) (s .pre .1) _ (w .before .before .enter .ensures) _ (w .before .entry .ensures) _ (w .check-one .ensures) _ _ _ _ (c .before .closing .given .1)
+check-sequence-add-chain-2 : (t : ℕ) → check-sequence-lts.Need-add-chain-2 (check-sequence-calls t) (check-sequence-at t) check-sequence.Post
+check-sequence-add-chain-2 t c = let f = next-fits (visit t (c .before .before .before)) _ _ _ _ (c .before .closing .given .1) in omega arith
+
+check-sequence-add-chain-3 : (t : ℕ) → check-sequence-lts.Need-add-chain-3 (check-sequence-calls t) (check-sequence-at t) check-sequence.Post
+check-sequence-add-chain-3 t c = let f = next-fits (visit t (c .before .before .before)) _ _ _ _ (c .before .closing .given .1) in omega arith
 
 check-sequence-check-closing-requires : (t : ℕ) → check-sequence-lts.Need-check-closing-requires (check-sequence-calls t) (check-sequence-at t) check-sequence.Post
-check-sequence-check-closing-requires t c κs = let w = c .before .before .before .before in let s = w .before .before .before .before .before in let a = s .args in (
-  omega (arith, s .pre .0, next-fewer (a .lists .now) (a .seqs .now) (λ k. w .before .before .before .before .shared-slice-known .given k .fits) (a .chain) (a .n) (s .pre .1) _ (w .before .before .enter .ensures) _ (w .before .entry .ensures) _ (w .check-one .ensures) _ _ _ _ (c .before .before .closing .given .1) _ (c .add .ensures)),
-  (
-    next-kept (a .lists .now) (a .seqs .now) (λ k. w .before .before .before .before .shared-slice-known .given k .fits) (a .chain) (a .n) (s .pre .1) _ (w .before .before .enter .ensures) _ (w .before .entry .ensures) _ (w .check-one .ensures) _ _ _ _ (c .before .before .closing .given .1) _ (c .add .ensures),
-    next-low (a .lists .now) (a .seqs .now) (λ k. w .before .before .before .before .shared-slice-known .given k .fits) (a .chain) (a .n) (s .pre .1) _ (w .before .before .enter .ensures) _ (w .before .entry .ensures) _ (w .check-one .ensures) _ _ _ _ (c .before .before .closing .given .1),
-  ),
-)
+check-sequence-check-closing-requires t c κs = let v = visit t (c .before .before .before) in
+    let e = c .before .closing .given .1 in
+    (omega (arith, c .before .before .before .before .before .before .before .pre .0, next-fewer v _ _ _ _ e), (next-kept v _ _ _ _ e, next-low v _ _ _ _ e))
 
 check-sequence-returns : (t : ℕ) → check-sequence-lts.Need-returns (check-sequence-calls t) (check-sequence-at t) check-sequence.Post
-check-sequence-returns t c = let w = c .before .before .before .before in let s = w .before .before .before .before .before in let a = s .args in
-    seq-fault (a .lists .now) (a .seqs .now) (λ k. w .before .before .before .before .shared-slice-known .given k .fits) (a .chain) (a .n) (s .pre .1) _ (w .before .before .enter .ensures) _ (w .before .entry .ensures) _ (w .check-one .ensures) _ _ _ (c .before .before .place .given .1) (c .fault .ensures)
+check-sequence-returns t c = seq-fault (visit t (c .before .before .before)) _ _ (c .before .place .given .1)
 
 check-sequence-returns-2 : (t : ℕ) → check-sequence-lts.Need-returns-2 (check-sequence-calls t) (check-sequence-at t) check-sequence.Post
-check-sequence-returns-2 t c = let w = c .before .before .before .before .before in let s = w .before .before .before .before .before in let a = s .args in
-    seq-next (a .lists .now) (a .seqs .now) (λ k. w .before .before .before .before .shared-slice-known .given k .fits) (a .chain) (a .n) (s .pre .1) _ (w .before .before .enter .ensures) _ (w .before .entry .ensures) _ (w .check-one .ensures) _ _ _ _ (c .before .before .before .closing .given .1) _ (c .before .add .ensures) _ (c .check-closing .ensures)
+check-sequence-returns-2 t c = seq-next (visit t (c .before .before .before .before)) _ _ _ _ (c .before .before .closing .given .1) _ (c .check-closing .ensures)
 
 pub +check-closing+check-sequence-spec : {M : Type 1} → statement M
 +check-closing+check-sequence-spec =
@@ -143,10 +142,9 @@ pub +check-closing+check-sequence-spec : {M : Type 1} → statement M
     (check-closing-at t)
     check-closing.Post
     (check-closing-enum-told t)
-    (check-closing-end-requires t)
     (check-closing-enum-known-closing t)
-    (check-closing-marked-requires t)
-    (check-closing-end-requires-2 t)
+    (check-closing-cast-mark t)
+    (check-closing-element-copy-out-if1 t)
     (check-closing-returns t)
     (check-closing-check-sequence-requires t)
     (check-closing-returns-2 t)
@@ -154,13 +152,15 @@ pub +check-closing+check-sequence-spec : {M : Type 1} → statement M
     λ t. check-sequence-lts.spec (check-sequence-calls t)
     (check-sequence-at t)
     check-sequence.Post
-    (check-sequence-enter-requires t)
+    (check-sequence-element-write-chain t)
+    (check-sequence-element-write-chain-2 t)
+    (check-sequence-add-chain t)
     (check-sequence-entry-requires t)
     (check-sequence-check-one-requires t)
     (check-sequence-enum-known-place t)
-    (check-sequence-fault-requires t)
     (check-sequence-enum-known-closing t)
-    (check-sequence-add-requires t)
+    (check-sequence-add-chain-2 t)
+    (check-sequence-add-chain-3 t)
     (check-sequence-check-closing-requires t)
     (check-sequence-returns t)
     (check-sequence-returns-2 t)

@@ -1,29 +1,57 @@
 -- `raster_exposures` meets its contract: counts no wider than their fields keep each product small. Assumes nothing.
 use native.Mathlib.Omega.{arith}
 use mathlib.Core.Path.{refl}
-use Rattle.survey.proofs.Totals.{sets-most, exposures-most}
+use Rattle.sequence.specs.Raster.{rasterAt}
+use Rattle.survey.proofs.Totals.{Narrow, narrow, sets-most, exposures-most}
 use borrow.Author.Needs.{needs}
 use Rattle.survey.proofs.raster_exposures.Statement.{statement}
 use Rattle.survey.proofs.raster_exposures.Tie as tie
 
+-- the raster at the place
+narrow-here : (s : tie.After-shared-slice-known) → Narrow (rasterAt (s .before .args .text .now) (s .before .args .at .0))
+narrow-here s = narrow (s .before .args .text .now) (s .before .args .at .0) (λ k. s .shared-slice-known .given k .fits)
+
+loops-at-requires : tie.Need-loops-at-requires
+loops-at-requires c κs = search needs
+
 cast-result : tie.Need-cast-result
 cast-result c = search needs
+
+exposures-at-requires : tie.Need-exposures-at-requires
+exposures-at-requires c κs = search needs
 
 cast-result-2 : tie.Need-cast-result-2
 cast-result-2 c = search needs
 
 mul-result : tie.Need-mul-result
-mul-result c = let m = sets-most (c .before .before .args .raster) (c .before .before .pre) in omega arith
+mul-result c = let m = sets-most _ (narrow-here (c .before .before)) in
+    rw (c .exposures-at .ensures, c .before .loops-at .ensures) (omega arith)
+
+repeats-at-requires : tie.Need-repeats-at-requires
+repeats-at-requires c κs = search needs
 
 cast-result-3 : tie.Need-cast-result-3
 cast-result-3 c = search needs
 
 mul-result-2 : tie.Need-mul-result-2
-mul-result-2 c = let m = exposures-most (c .before .before .before .args .raster) (c .before .before .before .pre) in omega arith
+mul-result-2 c = let m = exposures-most _ (narrow-here (c .before .before .before)) in
+    rw (c .repeats-at .ensures, c .before .exposures-at .ensures, c .before .before .loops-at .ensures) (omega arith)
 
 returns : tie.Need-returns
-returns c = (refl, exposures-most (c .before .before .before .args .raster) (c .before .before .before .pre))
+returns c =
+    rw (c .repeats-at .ensures, c .before .exposures-at .ensures, c .before .before .loops-at .ensures)
+    (refl, exposures-most _ (narrow-here (c .before .before .before)))
 
 pub raster-exposures-spec : {M : Type 1} → statement M
 raster-exposures-spec =
-    tie.close (tie.spec cast-result cast-result-2 mul-result cast-result-3 mul-result-2 returns)
+    tie.close
+    (tie.spec
+    loops-at-requires
+    cast-result
+    exposures-at-requires
+    cast-result-2
+    mul-result
+    repeats-at-requires
+    cast-result-3
+    mul-result-2
+    returns)

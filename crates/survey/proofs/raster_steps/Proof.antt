@@ -1,10 +1,18 @@
 -- `raster_steps` meets its contract: counts no wider than their fields keep each product small. Assumes nothing.
 use native.Mathlib.Omega.{arith}
 use mathlib.Core.Path.{refl}
-use Rattle.survey.proofs.Totals.{pass-most, steps-most}
+use Rattle.sequence.specs.Raster.{rasterAt}
+use Rattle.survey.proofs.Totals.{Narrow, narrow, pass-most, steps-most}
 use borrow.Author.Needs.{needs}
 use Rattle.survey.proofs.raster_steps.Statement.{statement}
 use Rattle.survey.proofs.raster_steps.Tie as tie
+
+-- the raster at the place
+narrow-here : (s : tie.After-shared-slice-known) → Narrow (rasterAt (s .before .args .text .now) (s .before .args .at .0))
+narrow-here s = narrow (s .before .args .text .now) (s .before .args .at .0) (λ k. s .shared-slice-known .given k .fits)
+
+loops-at-requires : tie.Need-loops-at-requires
+loops-at-requires c κs = search needs
 
 cast-pass : tie.Need-cast-pass
 cast-pass c = search needs
@@ -13,7 +21,11 @@ add-pass : tie.Need-add-pass
 add-pass c = search needs
 
 mul-pass : tie.Need-mul-pass
-mul-pass c = let a = c .before .args in let m = pass-most (a .raster) (c .before .pre) (a .from) (omega arith) in omega arith
+mul-pass c = let a = c .before .before .args in let m = pass-most _ (narrow-here (c .before)) (a .from) (omega arith) in
+    rw (c .loops-at .ensures) (omega arith)
+
+repeats-at-requires : tie.Need-repeats-at-requires
+repeats-at-requires c κs = search needs
 
 cast-result : tie.Need-cast-result
 cast-result c = search needs
@@ -22,15 +34,29 @@ add-result : tie.Need-add-result
 add-result c = search needs
 
 add-result-2 : tie.Need-add-result-2
-add-result-2 c = let a = c .before .before .args in let m = pass-most (a .raster) (c .before .before .pre) (a .from) (omega arith) in omega arith
+add-result-2 c = let a = c .before .before .before .args in let m = pass-most _ (narrow-here (c .before .before)) (a .from) (omega arith) in
+    rw (c .before .loops-at .ensures) (omega arith)
 
 mul-result : tie.Need-mul-result
-mul-result c = let a = c .before .before .args in let m = steps-most (a .raster) (c .before .before .pre) (a .before) (a .from) (omega arith) (omega arith) in omega arith
+mul-result c = let a = c .before .before .before .args in let m = steps-most _ (narrow-here (c .before .before)) (a .before) (a .from) (omega arith) (omega arith) in
+    rw (c .repeats-at .ensures, c .before .loops-at .ensures) (omega arith)
 
 returns : tie.Need-returns
-returns c = let a = c .before .before .args in (refl, steps-most (a .raster) (c .before .before .pre) (a .before) (a .from) (omega arith) (omega arith))
+returns c = let a = c .before .before .before .args in
+    rw (c .repeats-at .ensures, c .before .loops-at .ensures)
+    (refl, steps-most _ (narrow-here (c .before .before)) (a .before) (a .from) (omega arith) (omega arith))
 
 pub raster-steps-spec : {M : Type 1} → statement M
 raster-steps-spec =
     tie.close
-    (tie.spec cast-pass add-pass mul-pass cast-result add-result add-result-2 mul-result returns)
+    (tie.spec
+    loops-at-requires
+    cast-pass
+    add-pass
+    mul-pass
+    repeats-at-requires
+    cast-result
+    add-result
+    add-result-2
+    mul-result
+    returns)

@@ -6,8 +6,8 @@ use Rattle.unit.proofs.dumped.Tie as tie
 triple-requires : tie.Need-triple-requires
 triple-requires c κs = search needs
 
-cast-part-of : tie.Need-cast-part-of
-cast-part-of c = search needs
+cast-len : tie.Need-cast-len
+cast-len c = search needs
 
 dump-range-requires : tie.Need-dump-range-requires
 dump-range-requires c κs = search needs
@@ -20,4 +20,4 @@ returns c = simp (c .part-of .ensures, c .before .dump-range .ensures, c .before
 
 pub dumped-spec : {M : Type 1} → statement M
 dumped-spec =
-    tie.close (tie.spec triple-requires cast-part-of dump-range-requires part-of-requires returns)
+    tie.close (tie.spec triple-requires cast-len dump-range-requires part-of-requires returns)

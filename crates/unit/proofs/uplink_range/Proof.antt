@@ -1,4 +1,5 @@
 -- `uplink_range` meets its contract: the range of the numbers that the callees read. Assumes nothing.
+use Rattle.memory.specs.Memory.{rangeAt}
 use borrow.Author.Needs.{needs}
 use Rattle.unit.proofs.uplink_range.Statement.{statement}
 use Rattle.unit.proofs.uplink_range.Tie as tie
@@ -6,18 +7,22 @@ use Rattle.unit.proofs.uplink_range.Tie as tie
 triple-requires : tie.Need-triple-requires
 triple-requires c κs = search needs
 
+of-requires : tie.Need-of-requires
+of-requires c κs = search needs
+
 byte-requires : tie.Need-byte-requires
 byte-requires c κs = search needs
 
-cast-range-at : tie.Need-cast-range-at
-cast-range-at c = search needs
+cast-range : tie.Need-cast-range
+cast-range c = search needs
 
-range-at-requires : tie.Need-range-at-requires
-range-at-requires c κs = search needs
+range-requires : tie.Need-range-requires
+range-requires c κs = search needs
 
 returns : tie.Need-returns
-returns c = simp (c .range-at .ensures, c .before .byte .ensures, c .before .before .triple .ensures)
+unfolding rangeAt
+returns c = simp (c .range .ensures, c .before .byte .ensures, c .before .before .of .ensures, c .before .before .before .triple .ensures)
 
 pub uplink-range-spec : {M : Type 1} → statement M
 uplink-range-spec =
-    tie.close (tie.spec triple-requires byte-requires cast-range-at range-at-requires returns)
+    tie.close (tie.spec triple-requires of-requires byte-requires cast-range range-requires returns)

@@ -16,14 +16,8 @@ returns-2 : tie.Need-returns-2
 unfolding rangeOf
 returns-2 c = simp (ne-eqb _ _ (c .before .if1 .left), lt-ltb _ _ (c .if2 .taken))
 
-within-requires : tie.Need-within-requires
-within-requires c κs = search needs
-
 sub-t6 : tie.Need-sub-t6
 sub-t6 c = has-offset _ _ _ (sym (c .before .within .ensures) ∙ c .if3 .taken)
-
-cast-t7 : tie.Need-cast-t7
-cast-t7 c = search needs
 
 returns-3 : tie.Need-returns-3
 unfolding rangeOf
@@ -31,14 +25,8 @@ returns-3 c =
     let b = c .before .before in
     simp (ne-eqb _ _ (b .before .if1 .left), le-ltb _ _ (b .if2 .left), ← c .before .within .ensures, c .if3 .taken)
 
-within-requires-2 : tie.Need-within-requires-2
-within-requires-2 c κs = search needs
-
 sub-t9 : tie.Need-sub-t9
 sub-t9 c = has-offset _ _ _ (sym (c .before .within2 .ensures) ∙ c .if4 .taken)
-
-cast-t10 : tie.Need-cast-t10
-cast-t10 c = search needs
 
 returns-4 : tie.Need-returns-4
 unfolding rangeOf
@@ -60,12 +48,12 @@ range-spec =
     (tie.spec
     returns
     returns-2
-    within-requires
+    (λ c κs. search needs)
     sub-t6
-    cast-t7
+    (λ c. search needs)
     returns-3
-    within-requires-2
+    (λ c κs. search needs)
     sub-t9
-    cast-t10
+    (λ c. search needs)
     returns-4
     returns-5)

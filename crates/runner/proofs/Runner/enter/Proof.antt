@@ -5,18 +5,6 @@ use borrow.Author.Needs.{needs}
 use Rattle.runner.proofs.Runner.enter.Statement.{statement}
 use Rattle.runner.proofs.Runner.enter.Tie as tie
 
-header-of-requires : tie.Need-header-of-requires
-header-of-requires c κs = search needs
-
-enum-known-code : tie.Need-enum-known-code
-enum-known-code c = search needs
-
-aborted-requires : tie.Need-aborted-requires
-aborted-requires c κs = search needs
-
-enum-known-rounds : tie.Need-enum-known-rounds
-enum-known-rounds c = search needs
-
 returns : tie.Need-returns
 unfolding entered
 returns c = let b = c .before .before .before .before in c .aborted .ensures ∙ ap (enteredBy (b .before .before .args .self)) (sym (c .before .before .code .given .1) ∙ b .header-of .ensures)
@@ -29,9 +17,9 @@ pub enter-spec : {M : Type 1} → statement M
 enter-spec =
     tie.close
     (tie.spec
-    header-of-requires
-    enum-known-code
-    aborted-requires
-    enum-known-rounds
+    (λ c κs. search needs)
+    (λ c. search needs)
+    (λ c κs. search needs)
+    (λ c. search needs)
     returns
     returns-2)

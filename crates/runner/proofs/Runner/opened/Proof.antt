@@ -6,12 +6,6 @@ use borrow.Author.Needs.{needs}
 use Rattle.runner.proofs.Runner.opened.Statement.{statement}
 use Rattle.runner.proofs.Runner.opened.Tie as tie
 
-of-requires : tie.Need-of-requires
-of-requires c κs = search needs
-
-enum-known-raster : tie.Need-enum-known-raster
-enum-known-raster c = search needs
-
 enum-told : tie.Need-enum-told
 enum-told c = search needs
 
@@ -22,4 +16,4 @@ returns-2 : tie.Need-returns-2
 returns-2 c = let b = c .before .before in ap (λ (x : Placed). openBy x (b .before .args .self .count)) (sym (c .enum-told .given .1) ∙ b .of .ensures)
 
 pub opened-spec : {M : Type 1} → statement M
-opened-spec = tie.close (tie.spec of-requires enum-known-raster enum-told returns returns-2)
+opened-spec = tie.close (tie.spec (λ c κs. search needs) (λ c. search needs) enum-told returns returns-2)

@@ -14,9 +14,6 @@ use Rattle.runner.proofs.Runner.step.Tie as tie
 returns : tie.Need-returns
 returns c = let a = c .before .before .before .before .args in step-idle (envOf (a .lists .now)) (a .seqs .now) (a .self) (not-true (a .self .running) (c .if1 .taken))
 
-entry-requires : tie.Need-entry-requires
-entry-requires c κs = search needs
-
 step-in-requires : tie.Need-step-in-requires
 step-in-requires c κs = let a = c .before .before .before .before .before .args in subst (λ (t : List ℕ). length t ≤ 128) (sym (c .entry .ensures)) (entry-short (a .seqs .now) (a .self .sequence))
 
@@ -24,4 +21,4 @@ returns-2 : tie.Need-returns-2
 returns-2 c = let a = c .before .before .before .before .before .before .args in step-runs (envOf (a .lists .now)) (a .seqs .now) (a .self) _ _ (not-false (a .self .running) (c .before .before .if1 .left)) (c .before .entry .ensures) (c .step-in .ensures)
 
 pub step-spec : {M : Type 1} → statement M
-step-spec = tie.close (tie.spec returns entry-requires step-in-requires returns-2)
+step-spec = tie.close (tie.spec returns (λ c κs. search needs) step-in-requires returns-2)

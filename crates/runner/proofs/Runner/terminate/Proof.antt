@@ -1,20 +1,31 @@
--- Each way out is the definition's branch.
+-- Refused by a row, or the definition's branch.
 use borrow.Author.Tests.{lt-ltb, le-ltb}
-use Rattle.runner.specs.Step.{ended}
+use Rattle.runner.specs.Step.{ended, act}
+use Rattle.runner.proofs.Laws.{close-three}
 use borrow.Author.Needs.{needs}
 use Rattle.runner.proofs.Runner.terminate.Statement.{statement}
 use Rattle.runner.proofs.Runner.terminate.Tie as tie
 
-another-requires : tie.Need-another-requires
-another-requires c κs = search needs
-
 returns : tie.Need-returns
-unfolding ended
-returns c = simp (lt-ltb _ _ (c .before .if1 .taken), c .another .ensures)
+unfolding act
+returns c = rw (← c .before .before .before .opened .ensures, ← c .before .before .close-fault .ensures, close-three _ _ _ _ (c .before .before .close-fault .ensures) (c .before .if1 .taken)) (c .aborted .ensures)
 
 returns-2 : tie.Need-returns-2
-unfolding ended
-returns-2 c = simp (le-ltb _ _ (c .if1 .left))
+unfolding act ended
+returns-2 c = rw (← c .before .before .before .before .before .opened .ensures, ← c .before .before .before .before .close-fault .ensures, c .before .before .before .if1 .left, lt-ltb _ _ (c .before .if2 .taken)) (c .another .ensures)
+
+returns-3 : tie.Need-returns-3
+unfolding act ended
+returns-3 c = rw (← c .before .before .before .before .opened .ensures, ← c .before .before .before .close-fault .ensures, c .before .before .if1 .left, le-ltb _ _ (c .if2 .left))
 
 pub terminate-spec : {M : Type 1} → statement M
-terminate-spec = tie.close (tie.spec another-requires returns returns-2)
+terminate-spec =
+    tie.close
+    (tie.spec
+    (λ c κs. search needs)
+    (λ c κs. search needs)
+    (λ c κs. search needs)
+    returns
+    (λ c κs. search needs)
+    returns-2
+    returns-3)

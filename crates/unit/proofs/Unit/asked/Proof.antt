@@ -7,7 +7,7 @@ counted-requires : tie.Need-counted-requires
 counted-requires c κs = search needs
 
 returns : tie.Need-returns
-returns c = simp (c .counted .ensures)
+returns c = simp (c .before .before .before .counted .ensures)
 
 pub asked-spec : {M : Type 1} → statement M
 asked-spec = tie.close (tie.spec counted-requires returns)

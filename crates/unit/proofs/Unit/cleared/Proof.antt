@@ -7,7 +7,7 @@ cleared-requires : tie.Need-cleared-requires
 cleared-requires c κs = search needs
 
 returns : tie.Need-returns
-returns c = simp (c .before .cleared .ensures)
+returns c = simp (c .before .before .cleared .ensures)
 
 pub cleared-spec : {M : Type 1} → statement M
 cleared-spec = tie.close (tie.spec cleared-requires returns)

@@ -7,7 +7,7 @@ received-requires : tie.Need-received-requires
 received-requires c κs = search needs
 
 returns : tie.Need-returns
-returns c = simp (c .received .ensures)
+returns c = simp (c .before .before .before .received .ensures)
 
 pub logged-spec : {M : Type 1} → statement M
 logged-spec = tie.close (tie.spec received-requires returns)

@@ -1,11 +1,43 @@
--- `Unit::refusal` meets its contract: the code is the same ordered rows at the command found, which is the one that BC1 names. Assumes nothing.
-use mathlib.Core.Path.{_≡_, ap, _∙_}
-use Rattle.octets.specs.Rows.{firstCode}
-use Rattle.unit.specs.Packet.{kindOf}
-use Rattle.unit.proofs.Ways.{rowsOf, code-by}
+-- `Unit::refusal` meets its contract: each way out rewrites with its test and those before it. Assumes nothing.
+use mathlib.Core.Path.{_≡_}
+use mathlib.Core.Bool.{not}
+use mathlib.Core.List.{_∷_}
+use borrow.Author.Tests.{eq-eqb, ne-eqb, lt-ltb, le-ltb}
+use Rattle.octets.specs.Rows.{row, firstCode}
+use Rattle.unit.specs.Packet.{isForeign, isUnheard, lengthGood, ownRows, packetRows, codeOf}
 use borrow.Author.Needs.{needs}
 use Rattle.unit.proofs.Unit.refusal.Statement.{statement}
 use Rattle.unit.proofs.Unit.refusal.Tie as tie
+
+lent-wrong-requires : tie.Need-lent-wrong-requires
+lent-wrong-requires c κs = search needs
+
+returns : tie.Need-returns
+unfolding packetRows codeOf
+returns c = simp (← c .before .lent-wrong .ensures, c .if1 .taken)
+
+out-of-range-requires : tie.Need-out-of-range-requires
+out-of-range-requires c κs = search needs
+
+returns-2 : tie.Need-returns-2
+unfolding packetRows codeOf
+returns-2 c =
+    let b = c .before .before in
+    simp (← b .before .lent-wrong .ensures, b .if1 .left, ← c .before .out-of-range .ensures, c .if2 .taken)
+
+returns-3 : tie.Need-returns-3
+unfolding packetRows codeOf
+returns-3 c =
+    let d = c .before in
+    let b = d .before .before in
+    simp (← b .before .lent-wrong .ensures, b .if1 .left, ← d .before .out-of-range .ensures, d .if2 .left, eq-eqb _ _ (c .if3 .taken))
+
+returns-4 : tie.Need-returns-4
+unfolding packetRows codeOf
+returns-4 c =
+    let d = c .before .before in
+    let b = d .before .before in
+    simp (← b .before .lent-wrong .ensures, b .if1 .left, ← d .before .out-of-range .ensures, d .if2 .left, ne-eqb _ _ (c .before .if3 .left), lt-ltb _ _ (c .if4 .taken))
 
 byte-requires : tie.Need-byte-requires
 byte-requires c κs = search needs
@@ -13,87 +45,76 @@ byte-requires c κs = search needs
 kind-of-requires : tie.Need-kind-of-requires
 kind-of-requires c κs = search needs
 
-length-good-requires : tie.Need-length-good-requires
-length-good-requires c κs = search needs
-
-own-fault-requires : tie.Need-own-fault-requires
-own-fault-requires c κs = search needs
-
-refuse-requires : tie.Need-refuse-requires
-refuse-requires c κs = search needs
-
-lent-wrong-requires : tie.Need-lent-wrong-requires
-lent-wrong-requires c κs = search needs
-
-out-of-range-requires : tie.Need-out-of-range-requires
-out-of-range-requires c κs = search needs
+-- past the rows on sizes and range the code is that of the rows on the command
+heard : (c : tie.After-kind-of) → let a = c .before .before .before .before .before .before .before .before .before .before .before .before .args in let k = c .kind-of .result in
+    codeOf (a .self) (a .seqs .now) (a .lists .now) (a .out .now) (a .pkt .now)
+    ≡ firstCode (row 5 (isForeign k) ∷ row 6 (isUnheard k) ∷ row 1 (not (lengthGood k (a .pkt .now))) ∷ ownRows k (a .self) (a .pkt .now))
+unfolding packetRows codeOf
+heard c =
+    let e = c .before .before in
+    let d = e .before .before in
+    let b = d .before .before in
+    simp (
+      ← b .before .lent-wrong .ensures,
+      b .if1 .left,
+      ← d .before .out-of-range .ensures,
+      d .if2 .left,
+      ne-eqb _ _ (e .before .if3 .left),
+      le-ltb _ _ (e .if4 .left),
+      ← c .before .byte .ensures,
+      ← c .kind-of .ensures,
+    )
 
 is-foreign-requires : tie.Need-is-foreign-requires
 is-foreign-requires c κs = search needs
 
+returns-5 : tie.Need-returns-5
+returns-5 c = rw (heard (c .before .before), ← c .before .is-foreign .ensures, c .if5 .taken)
+
 is-unheard-requires : tie.Need-is-unheard-requires
 is-unheard-requires c κs = search needs
 
-refuse-requires-2 : tie.Need-refuse-requires-2
-refuse-requires-2 c κs = search needs
+returns-6 : tie.Need-returns-6
+returns-6 c =
+    let b = c .before .before in
+    rw (heard (b .before .before), ← b .before .is-foreign .ensures, b .if5 .left, ← c .before .is-unheard .ensures, c .if6 .taken)
 
-refuse-requires-3 : tie.Need-refuse-requires-3
-refuse-requires-3 c κs = search needs
+length-good-requires : tie.Need-length-good-requires
+length-good-requires c κs = search needs
 
-refuse-requires-4 : tie.Need-refuse-requires-4
-refuse-requires-4 c κs = search needs
+returns-7 : tie.Need-returns-7
+returns-7 c =
+    let d = c .before .before in
+    let b = d .before .before in
+    rw (heard (b .before .before), ← b .before .is-foreign .ensures, b .if5 .left, ← d .before .is-unheard .ensures, d .if6 .left, ← c .before .length-good .ensures, c .if7 .taken)
 
-refuse-requires-5 : tie.Need-refuse-requires-5
-refuse-requires-5 c κs = search needs
+own-fault-requires : tie.Need-own-fault-requires
+own-fault-requires c κs = search needs
 
-refuse-requires-6 : tie.Need-refuse-requires-6
-refuse-requires-6 c κs = search needs
-
-refuse-requires-7 : tie.Need-refuse-requires-7
-refuse-requires-7 c κs = search needs
-
-returns : tie.Need-returns
-returns c =
-    let b = c .before .before .before .before in
-    let d = b .before .before .before .before in
-    let f = d .before .before .before .before in
-    let a = f .before .before .before .before .before .before .before .args in
-    let kind = f .before .kind-of in
-    let rows = rowsOf (kind .result) (a .self) (a .seqs .now) (a .lists .now) (a .out .now) (a .pkt .now) in
-    let e : c .refuse7 .result ≡ firstCode rows = simp (
-      c .refuse7 .ensures,
-      c .before .refuse6 .ensures,
-      c .before .before .refuse5 .ensures,
-      c .before .before .before .refuse4 .ensures,
-      b .refuse3 .ensures,
-      b .before .refuse2 .ensures,
-      b .before .before .is-unheard .ensures,
-      b .before .before .before .is-foreign .ensures,
-      d .out-of-range .ensures,
-      d .before .lent-wrong .ensures,
-      d .before .before .refuse .ensures,
-      d .before .before .before .own-fault .ensures,
-      f .length-good .ensures,
-    ) in
-    e ∙ code-by (kind .result) (a .self) (a .seqs .now) (a .lists .now) (a .out .now) (a .pkt .now) (kind .ensures ∙ ap kindOf (f .before .before .byte .ensures))
+returns-8 : tie.Need-returns-8
+returns-8 c =
+    let e = c .before in
+    let d = e .before .before in
+    let b = d .before .before in
+    rw (heard (b .before .before), ← b .before .is-foreign .ensures, b .if5 .left, ← d .before .is-unheard .ensures, d .if6 .left, ← e .before .length-good .ensures, e .if7 .left) (c .own-fault .ensures)
 
 pub refusal-spec : {M : Type 1} → statement M
 refusal-spec =
     tie.close
     (tie.spec
+    lent-wrong-requires
+    returns
+    out-of-range-requires
+    returns-2
+    returns-3
+    returns-4
     byte-requires
     kind-of-requires
-    length-good-requires
-    own-fault-requires
-    refuse-requires
-    lent-wrong-requires
-    out-of-range-requires
     is-foreign-requires
+    returns-5
     is-unheard-requires
-    refuse-requires-2
-    refuse-requires-3
-    refuse-requires-4
-    refuse-requires-5
-    refuse-requires-6
-    refuse-requires-7
-    returns)
+    returns-6
+    length-good-requires
+    returns-7
+    own-fault-requires
+    returns-8)

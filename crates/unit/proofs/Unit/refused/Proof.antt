@@ -14,7 +14,7 @@ failed-requires c κs = search needs
 
 returns-2 : tie.Need-returns-2
 unfolding refusedUnit
-returns-2 c = simp (c .failed .ensures, lt-leb _ _ (c .before .before .if1 .left))
+returns-2 c = simp (c .before .before .before .failed .ensures, lt-leb _ _ (c .before .before .before .before .if1 .left))
 
 pub refused-spec : {M : Type 1} → statement M
 refused-spec = tie.close (tie.spec returns failed-requires returns-2)

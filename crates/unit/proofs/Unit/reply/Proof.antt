@@ -1,11 +1,9 @@
--- `Unit::reply` meets its contract: a status and a dump are laid over the output, which has room for them; the other arms reply nothing. Assumes nothing.
-use native.Mathlib.Omega.{arith}
-use mathlib.Core.Path.{refl, ap, _∙_}
-use lib.ListN.{length}
+-- `Unit::reply` meets its contract: a status and a dump are written over the output, which has room for them; the other arms reply nothing. Assumes nothing.
+use mathlib.Core.Path.{refl, sym, ap}
 use Rattle.unit.specs.declared.Unit.{Unit}
 use Rattle.unit.specs.Status.{statusOf}
 use Rattle.unit.specs.Answer.{reply}
-use Rattle.unit.proofs.Ways.{dump-short, replied}
+use Rattle.unit.proofs.Ways.{replied, status-room, status-replied, dump-replied}
 use borrow.Author.Needs.{needs}
 use Rattle.unit.proofs.Unit.reply.Statement.{statement}
 use Rattle.unit.proofs.Unit.reply.Tie as tie
@@ -16,14 +14,16 @@ enum-told c = search needs
 asked-requires : tie.Need-asked-requires
 asked-requires c κs = search needs
 
-status-block-requires : tie.Need-status-block-requires
-status-block-requires c κs = search needs
+slice-relend-prefix-put-status : tie.Need-slice-relend-prefix-put-status
+slice-relend-prefix-put-status c = search needs
 
-slice-aggregate-lay : tie.Need-slice-aggregate-lay
-slice-aggregate-lay c = search needs
+slice-aggregate-put-status : tie.Need-slice-aggregate-put-status
+slice-aggregate-put-status c =
+    let s = c .before .before .before .before .before .before .before .before in sym (status-room (s .args .out .now) (s .pre))
 
-lay-requires : tie.Need-lay-requires
-lay-requires c κs = search needs
+put-status-requires : tie.Need-put-status-requires
+put-status-requires c κs =
+    let s = c .before .before .before .before .before .before .before .before in status-room (s .args .out .now) (s .pre)
 
 enum-told-2 : tie.Need-enum-told-2
 enum-told-2 c = search needs
@@ -31,10 +31,8 @@ enum-told-2 c = search needs
 dumped-requires : tie.Need-dumped-requires
 dumped-requires c κs = search needs
 
-lay-requires-2 : tie.Need-lay-requires-2
-lay-requires-2 c κs =
-    let s = c .before .before .before .before .before .before .before .before in
-    omega (arith, ap length (c .before .dumped .ensures), dump-short (s .args .seqs .now) (s .args .lists .now) (s .args .pkt .now), s .pre)
+write-requires : tie.Need-write-requires
+write-requires c κs = search needs
 
 enum-told-3 : tie.Need-enum-told-3
 enum-told-3 c = search needs
@@ -64,11 +62,11 @@ returns : tie.Need-returns
 unfolding reply
 returns c =
     let b = c .before .before in
-    let a = b .before .before .before .before .before .before .before .before .before .before .before .args in
+    let a = b .before .before .before .before .before .before .before .before .before .args in
     replied _ _ (a .self) (a .time) (a .seqs .now) (a .lists .now) (a .out .now) (a .pkt .now) _ _ _
-    (b .before .before .before .before .before .enum-told .given .1)
-    (b .before .before .before .status-block .ensures ∙ ap (λ (x : Unit). statusOf x (a .time)) (b .before .before .before .before .asked .ensures))
-    (b .lay .ensures)
+    (b .before .before .before .enum-told .given .1)
+    (ap (λ (x : Unit). statusOf x (a .time)) (b .before .before .asked .ensures))
+    (status-replied (b .before .before .asked .result) (a .time) _ (a .out .now) (b .put-status .ensures))
 
 same-length-2 : tie.Need-same-length-2
 same-length-2 c = search needs
@@ -77,11 +75,12 @@ returns-2 : tie.Need-returns-2
 unfolding reply
 returns-2 c =
     let b = c .before .before in
-    let a = b .before .before .before .before .before .before .before .before .before .args in
+    let s = b .before .before .before .before .before .before .before .before .before in
+    let a = s .args in
     replied _ _ (a .self) (a .time) (a .seqs .now) (a .lists .now) (a .out .now) (a .pkt .now) _ _ _
     (b .before .before .before .enum-told2 .given .1)
     (b .before .before .dumped .ensures)
-    (b .lay2 .ensures)
+    (dump-replied (a .seqs .now) (a .lists .now) (a .pkt .now) _ _ _ (b .before .before .dumped .ensures) (s .pre) (b .write .ensures))
 
 returns-3 : tie.Need-returns-3
 unfolding reply
@@ -117,12 +116,12 @@ reply-spec =
     (tie.spec
     enum-told
     asked-requires
-    status-block-requires
-    slice-aggregate-lay
-    lay-requires
+    slice-relend-prefix-put-status
+    slice-aggregate-put-status
+    put-status-requires
     enum-told-2
     dumped-requires
-    lay-requires-2
+    write-requires
     enum-told-3
     enum-told-4
     enum-told-5

@@ -15,7 +15,7 @@ refuse-requires-2 c κs = search needs
 
 returns : tie.Need-returns
 unfolding ownRows
-returns c = simp (c .refuse2 .ensures, c .before .refuse .ensures, c .before .before .before .byte .ensures)
+returns c = simp (c .refuse2 .ensures, c .before .refuse .ensures, c .before .before .byte .ensures)
 
 pub select-fault-spec : {M : Type 1} → statement M
 select-fault-spec = tie.close (tie.spec byte-requires refuse-requires refuse-requires-2 returns)

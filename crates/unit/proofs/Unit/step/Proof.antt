@@ -17,7 +17,7 @@ taken-requires : tie.Need-taken-requires
 taken-requires c κs = search needs
 
 returns-2 : tie.Need-returns-2
-returns-2 c = stepped-on _ _ _ _ (c .before .before .before .before .step-fault .ensures) _ _ (c .before .before .before .if1 .left) (c .before .step .ensures) (c .taken .ensures)
+returns-2 c = stepped-on _ _ _ _ (c .before .before .before .step-fault .ensures) _ _ (c .before .before .if1 .left) (c .before .step .ensures) (c .taken .ensures)
 
 pub step-spec : {M : Type 1} → statement M
 step-spec = tie.close (tie.spec step-fault-requires returns step-requires taken-requires returns-2)

@@ -9,7 +9,7 @@ watched-requires c κs = search needs
 
 returns : tie.Need-returns
 unfolding taken
-returns c = simp (c .watched .ensures)
+returns c = simp (c .before .before .watched .ensures)
 
 pub taken-spec : {M : Type 1} → statement M
 taken-spec = tie.close (tie.spec watched-requires returns)

@@ -1,0 +1,83 @@
+-- What ordered rows tell: a raster that none of them refuses, and the codes that they bear.
+-- Assumes nothing.
+use Prim.Native.Nat.{ℕ, _≤_, _<_}
+use native.Mathlib.Omega.{arith}
+use mathlib.Core.Path.{_≡_, refl}
+use mathlib.Core.Bool.{Bool, true, false, cond, _&&_}
+use mathlib.Core.List.{List, [], _∷_}
+use lib.Dec.{T, leb, eqb}
+use borrow.Author.Tests.{ltb-false, leb-true, eqb-true, eqb-false, le-leb}
+use Rattle.octets.specs.Rows.{Row, firstCode, NoneHolds, coded}
+use Rattle.octets.proofs.Laws.{none-holds}
+use Rattle.sequence.specs.declared.RasterWords.{RasterWords}
+use Rattle.sequence.specs.Raster.{startOf, reachOf}
+use Rattle.sequence.specs.Env.{Env}
+use Rattle.sequence.proofs.Laws.{and-both}
+use Rattle.runner.specs.declared.Act.{Act}
+use Rattle.runner.specs.declared.Act.the-variants.{Refused}
+use Rattle.runner.specs.Judge.{setOf, pathRows, rasterRows, unless}
+
+-- ── codes
+-- every row bears a code up to 15, as the status block has room for
+abbrev pub small : List Row → Bool
+small [] = true
+small (r ∷ rs) = leb (r .code) 15 && small rs
+
+pub code-small : (rs : List Row) → small rs ≡ true → firstCode rs ≤ 15
+code-small [] h = omega arith
+code-small (r ∷ rs) h =
+    let (a, b) = and-both (leb (r .code) 15) (small rs) h in
+    go (r .holds) (leb-true (r .code) 15 a) (code-small rs b)
+  where
+    go : (t : Bool) → r .code ≤ 15 → firstCode rs ≤ 15 → cond t (r .code) (firstCode rs) ≤ 15
+    go true x y = x
+    go false x y = y
+
+-- what holds of a refusal with the first code, and of the act where no row holds, holds of what the rows make of the act
+pub by-first : (P : Act → Type 0) (rs : List Row) (a : Act) → T (coded rs) → ((c : ℕ) → 0 < c → firstCode rs ≡ c → P (Refused c)) → (NoneHolds rs → P a)
+    → P (unless (firstCode rs) a)
+by-first P rs a k f g = go (eqb (firstCode rs) 0) refl
+  where
+    go : (b : Bool) → eqb (firstCode rs) 0 ≡ b → P (cond b a (Refused (firstCode rs)))
+    go true e = g (none-holds rs k (eqb-true (firstCode rs) 0 e))
+    go false e = f (firstCode rs) (omega (arith, eqb-false (firstCode rs) 0 e)) refl
+
+-- the same where every code is small
+pub by-rows : (P : Act → Type 0) (rs : List Row) (a : Act) → T (coded rs) → small rs ≡ true → ((c : ℕ) → c ≤ 15 → P (Refused c)) → (NoneHolds rs → P a) → P (unless (firstCode rs) a)
+by-rows P rs a k l f g = by-first P rs a k (λ c h e. f c (let m = code-small rs l in omega arith)) g
+
+-- ── a raster that no row refuses
+pub record Sound (raster : RasterWords) : Type 0 where
+  pub loops : 0 < raster .loops
+  pub repeats : 0 < raster .repeats
+  pub some : 0 < raster .exposures
+  pub most : raster .exposures ≤ 8
+  pub list : raster .list ≤ 47
+  pub starts : (k : ℕ) → startOf raster k ≤ 2400
+  pub reaches : (k : ℕ) → k < raster .repeats → reachOf raster k ≤ 2400
+
+pub sound : (E : Env) (raster : RasterWords) → NoneHolds (rasterRows E raster) → Sound raster
+unfolding rasterRows pathRows
+sound E raster h =
+    record {
+      loops = omega (arith, eqb-false (raster .loops) 0 (h .0));
+      repeats = omega (arith, eqb-false (raster .repeats) 0 (h .1 .0));
+      some = omega (arith, eqb-false (raster .exposures) 0 (h .1 .1 .0));
+      most = ltb-false 8 (raster .exposures) (h .1 .1 .1 .0);
+      list = ltb-false 47 (raster .list) (h .1 .1 .1 .1 .0);
+      starts = λ k. ltb-false 2400 (raster .initial) (h .1 .1 .1 .1 .1 .1 .0);
+      reaches = λ k l. ltb-false 2400 (reachOf raster 0) (h .1 .1 .1 .1 .1 .1 .1 .1 .0);
+    }
+
+pub set-most : (raster : RasterWords) → setOf raster ≤ 8
+set-most raster = go (leb (raster .exposures) 8) refl
+  where
+    go : (b : Bool) → leb (raster .exposures) 8 ≡ b → cond b (raster .exposures) 8 ≤ 8
+    go true e = leb-true (raster .exposures) 8 e
+    go false e = omega arith
+
+pub set-is : {raster : RasterWords} → Sound raster → setOf raster ≡ raster .exposures
+set-is {raster} g = rw (le-leb (raster .exposures) 8 (g .most))
+
+pub set-some : {raster : RasterWords} → Sound raster → 0 < setOf raster
+set-some g = let e = set-is g in let h = g .some in omega arith

@@ -1,0 +1,51 @@
+-- A library as the demands see it: what its public functions answer, each for all inputs. A demand is a statement of any library. proofs/ shows
+-- that ours keeps every demand; Refuted has the wrong libraries that document 01 names, and what each of them does not keep.
+use Prim.Native.Nat.{ℕ}
+use mathlib.Core.List.{List}
+use Rattle.memory.specs.Memory.{windowCode, windowPart}
+use Rattle.sequence.specs.Env.{Env}
+use Rattle.runner.specs.declared.Runner.{Runner}
+use Rattle.runner.specs.declared.Stepped.{Stepped}
+use Rattle.runner.specs.Step.{stepOf}
+use Rattle.survey.specs.Chain.{Told, checkOf}
+use Rattle.unit.specs.declared.Unit.{Unit as ControlUnit}
+use Rattle.unit.specs.declared.UnitStep.{UnitStep}
+use Rattle.unit.specs.declared.Answer.{Answer}
+use Rattle.unit.specs.State.{powerOn}
+use Rattle.unit.specs.Answer.{answerOf, seqsAfter, listsAfter, outAfter}
+use Rattle.unit.specs.Step.{unitStep}
+
+pub record Library : Type 0 where
+  -- the unit at power-on
+  pub powersOn : ControlUnit
+  -- what a packet is answered, from the unit, the time, both tables, the output and the packet's bytes: the code, how many bytes, the unit after it
+  pub answers : ControlUnit → ℕ → List ℕ → List ℕ → List ℕ → List ℕ → Answer
+  -- what it leaves in the sequence table, in the line lists and in the output
+  pub seqsLeft : ControlUnit → List ℕ → List ℕ → List ℕ → List ℕ → List ℕ
+  pub listsLeft : ControlUnit → List ℕ → List ℕ → List ℕ → List ℕ → List ℕ
+  pub outLeft : ControlUnit → ℕ → List ℕ → List ℕ → List ℕ → List ℕ → List ℕ
+  -- a step of the unit over both tables: what is seen of it, and the unit after it
+  pub steps : ControlUnit → List ℕ → List ℕ → UnitStep
+  -- the interpreter's step in it
+  pub runs : Env → List ℕ → Runner → Stepped
+  -- what the check tells of the chain that begins at a sequence: its names, how it ends, its steps and its exposures
+  pub checks : List ℕ → List ℕ → ℕ → Told
+  -- what the desk is answered that asks both tables for an address and a length: the code, and the part that it is handed
+  pub windowCode : List ℕ → List ℕ → ℕ → ℕ → ℕ
+  pub windowPart : List ℕ → List ℕ → ℕ → ℕ → List ℕ
+
+-- Ours. Each is the definition with which the function's contract is an equation: TheCode says so of each function.
+abbrev pub ours : Library
+ours =
+    record {
+      powersOn = powerOn;
+      answers = answerOf;
+      seqsLeft = seqsAfter;
+      listsLeft = listsAfter;
+      outLeft = outAfter;
+      steps = unitStep;
+      runs = stepOf;
+      checks = checkOf;
+      windowCode = windowCode;
+      windowPart = windowPart;
+    }
