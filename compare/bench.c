@@ -3,6 +3,9 @@
  * part of a millisecond, and the least of all batches is shown: the machine's other work can only add.
  * A row's time has in it the copy of 32 bytes that puts the state back before each call. Each row is
  * printed as its name, proved and plain nanoseconds, with tabs between.
+ *
+ * bench ROW SIDE TIMES makes the calls of one row, from 0, that often in one library (SIDE k or p), and prints
+ * its name and how many things a call does: for a count of the instructions.
  */
 #include "keel.h"
 #include "make.h"
@@ -10,6 +13,7 @@
 
 #include <stdbool.h>
 #include <stdio.h>
+#include <stdlib.h>
 #include <string.h>
 #include <time.h>
 
@@ -99,12 +103,34 @@ static double batch(call f, unsigned long n)
     return (nanoseconds() - start) / (double)n;
 }
 
+/* The one row to count, if any. */
+static struct {
+    bool wanted;
+    unsigned long row;
+    bool keel;
+    unsigned long times;
+} count;
+
+static void counted_row(const char *name, call f, unsigned things)
+{
+    if (count.row-- != 0)
+        return;
+    printf("%s\t%u\n", name, things);
+    for (unsigned long i = 0; i < count.times; i++)
+        f();
+    exit(0);
+}
+
 /* A row of calls that do so many things each; its times are those of one. */
 static void row_of_many(const char *name, call keel, call plain, unsigned things)
 {
     double k = 1e18, p = 1e18;
     unsigned long n = 1;
 
+    if (count.wanted) {
+        counted_row(name, count.keel ? keel : plain, things);
+        return;
+    }
     while (batch(plain, n) * (double)n < BATCH_NS)
         n *= 2;
     for (int i = 0; i < BATCHES; i++) {
@@ -169,13 +195,19 @@ static void step_row(const char *name, unsigned kind, unsigned nth)
     row(name, keel_one_step, plain_one_step);
 }
 
-int main(void)
+int main(int argc, char **argv)
 {
     static const uint8_t status[] = {0x01};
     static const uint8_t dump[] = {0x07, 0x07, 0x00, 0x00, 0x00, 0x40, 0x00};
     static const uint8_t refused[] = {0xE5, 0x06, 0x00, 0x00, 0x01, 0x00};
     uint8_t uplink[133] = {0xE7, 0x07, 0x00, 0x00, 0x80};
 
+    if (argc == 4) {
+        count.wanted = true;
+        count.row = strtoul(argv[1], NULL, 10);
+        count.keel = argv[2][0] == 'k';
+        count.times = strtoul(argv[3], NULL, 10);
+    }
     make_ring(seqs, lists, 128);
     memcpy(uplink + 5, seqs, 128);
     start(false);

@@ -11,7 +11,8 @@
 # By name alone:
 #   baseline         the same as bench, and its rows are kept in compare/baseline.txt
 #   vectors FOLDER   the proved programs on the folder's desk-N.in and tables-N.bin; says how many are equal
-#   unproved STAGE.. library and bench take the library as its sources stand, compiled without its proofs
+#   counts           one table of instructions, proved and plain, counted by the emulator: the same on every machine that has it
+#   unproved STAGE.. library, bench and counts take the library as its sources stand, compiled without its proofs
 # All programs are for x86-64, built by the same compiler as the proved ones, and run with its C library;
 # on another machine they run under its emulator, and their times say nothing.
 set -euo pipefail
@@ -189,6 +190,28 @@ stage_baseline() {
     { echo "# $(this_run)"; cat "$build/rows.tsv"; } >"$here/baseline.txt"
 }
 
+# How many instructions a run of the benchmark's one row takes in all.
+instructions() { # ROW SIDE TIMES
+    "$tools/bin/qemu-x86_64" -one-insn-per-tb -d exec,nochain -D /dev/stderr "${runner[@]:1}" \
+        "$build/library/bench" "$@" 2>&1 >/dev/null | wc -l
+}
+
+# The instructions of one thing that a row does: two calls more, and the rest is the same.
+stage_counts() {
+    local row name things side one
+    [ -n "$emulated" ] || { echo "run.sh: counts wants the emulator" >&2; return 2; }
+    build_library
+    for row in {0..16}; do
+        IFS=$'\t' read -r name things < <(run "$build/library/bench" "$row" k 0)
+        one="$name"
+        for side in k p; do
+            one+=$'\t'$((($(instructions "$row" "$side" 3) - $(instructions "$row" "$side" 1)) / 2 / things))
+        done
+        echo "$one"
+    done | awk -F '\t' 'BEGIN { printf "%-36s %10s %10s %7s\n", "instructions", "proved", "plain", "ratio" }
+        { printf "%-36s %10d %10d %7.2f\n", $1, $2, $3, $2 / $3 }'
+}
+
 stage_desks() {
     local script
     build_programs
@@ -244,7 +267,7 @@ build_plain
 while [ $# -gt 0 ]; do
     echo "== $1"
     case $1 in
-    plain | self | library | bench | baseline | desks | surveys) "stage_$1" ;;
+    plain | self | library | bench | baseline | counts | desks | surveys) "stage_$1" ;;
     vectors)
         stage_vectors "$(cd "$from" && cd "${2:?a folder is wanted}" && pwd)"
         shift

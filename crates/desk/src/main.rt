@@ -5,6 +5,7 @@ ghost use lib.ListN.{length};
 use libc::STDIN_FILENO;
 use libc::STDOUT_FILENO;
 use line::Line;
+use memory::Format;
 use unit::Outcome;
 use unit::Unit;
 
@@ -65,18 +66,19 @@ fn take_packet(
     text: &mut [u8],
 ) -> Desk {
     let packet = octets::part(typed, 0, n);
-    let answer = desk.unit.packet(seqs, lists, out, 0, packet);
+    let answer = desk.unit
+        .packet(Format::flight(), seqs, lists, out, 0, packet);
     let bc1 = octets::byte(packet, 0);
     let from = room(text, desk.at, ANSWER);
     let after = line::put_answer(text, from, bc1, answer.code);
-    let at = put_reply(text, after, bc1, octets::part(out, 0, answer.length));
+    let at = put_reply(text, after, bc1, octets::part(out, 0, answer.size));
     let unit = answer.unit;
     Desk { unit, at }
 }
 
 // One step, and its event shown. The desk's tables and state are never refused.
 fn take_step(desk: Desk, seqs: &[u8], lists: &[u8], text: &mut [u8]) -> Desk {
-    let step = desk.unit.step(seqs, lists);
+    let step = desk.unit.step(Format::flight(), seqs, lists);
     let unit = step.unit;
     let outcome = step.outcome;
     let from = room(text, desk.at, EVENT);

@@ -13,7 +13,7 @@ use Rattle.octets.specs.Layout.{AllFit}
 use Rattle.octets.specs.Rows.{firstCode}
 use Rattle.octets.proofs.Laws.{none-holds}
 use Rattle.octets.proofs.LayoutLaws.{Octets, laid-reads, reads-laid}
-use Rattle.memory.specs.Memory.{tablesWrong}
+use Rattle.memory.specs.Memory.{flight, tablesWrong}
 use Rattle.sequence.specs.Env.{envOf}
 use Rattle.runner.specs.declared.Runner.{Runner}
 use Rattle.runner.specs.declared.Event.{Event}
@@ -31,7 +31,7 @@ use Rattle.unit.specs.declared.UnitStep.{UnitStep}
 use Rattle.unit.specs.Packet.{lentWrong, codeOf}
 use Rattle.unit.specs.Answer.{unitAfter}
 use Rattle.unit.proofs.Laws.{refused-keeps}
-use Rattle.unit.specs.Step.{watched, stepRows, stepped, taken, unitStepBy, unitStep}
+use Rattle.unit.specs.Step.{watched, stepRows, stepped, withStep, unitStepBy, unitStep}
 use Rattle.unit.specs.State.{powerOn, withLedger, withWatch, withRunner, outOfRange}
 use Rattle.keel.specs.State.{stateFields, stateOf, unitFrom, unitOf, flagsWrong}
 use Rattle.keel.specs.Calls.{stateSized, heldRows, heldCode, packetCode, stateAfter, keptSeqs, keptLists, keptOut, heldStep, stateBy, stateStepped}
@@ -76,29 +76,29 @@ pub record Took (u : Unit) (r : UnitStep) (e : Event) : Type 0 where
   pub runner : r .unit .runner ≡ moves e (r .unit .runner) (u .runner)
 
 took-by : (t : Bool) (u : Unit) (x : Stepped) (code : ℕ) (e : Event) → Moved (u .runner) x
-    → cond t (taken u x) (stepped (Denied code) u) .outcome ≡ Saw e → Took u (cond t (taken u x) (stepped (Denied code) u)) e
-unfolding taken
+    → cond t (withStep u x) (stepped (Denied code) u) .outcome ≡ Saw e → Took u (cond t (withStep u x) (stepped (Denied code) u)) e
+unfolding withStep
 took-by true u x code e m o = let f : x .event ≡ e = cc in record { part = refl; watch = ap (λ (v : Event). watched v (u .watch)) f; runner = rw (← f) m }
 took-by false u x code e m o = let z : _≡_ {A = ℕ} 0 1 = cc in absurd (omega arith)
 
-pub took : (u : Unit) (seqs lists : List ℕ) (e : Event) → unitStep u seqs lists .outcome ≡ Saw e → Took u (unitStep u seqs lists) e
+pub took : (u : Unit) (seqs lists : List ℕ) (e : Event) → unitStep flight u seqs lists .outcome ≡ Saw e → Took u (unitStep flight u seqs lists) e
 unfolding unitStep
 took u seqs lists e =
-    let code = firstCode (stepRows u seqs lists) in
-    took-by (eqb code 0) u (stepOf (envOf lists) seqs (u .runner)) code e (step-moves (u .runner) (envOf lists) seqs)
+    let code = firstCode (stepRows flight u seqs lists) in
+    took-by (eqb code 0) u (stepOf (envOf flight lists) seqs (u .runner)) code e (step-moves (u .runner) (envOf flight lists) seqs)
 
 rest-by : (t : Bool) (u : Unit) → unitStepBy (cond t 17 0) u (to Idle (u .runner)) ≡ cond t (stepped (Denied 17) u) (stepped (Saw Idle) u)
-unfolding taken
+unfolding withStep
 rest-by true u = refl
 rest-by false u = refl
 
 -- a unit that does not run idles, unless it is out of range
-pub at-rest : (u : Unit) (seqs lists : List ℕ) → tablesWrong seqs lists ≡ false → u .runner .running ≡ false → unitStep u seqs lists ≡ cond (outOfRange u) (stepped (Denied 17) u) (stepped (Saw Idle) u)
+pub at-rest : (u : Unit) (seqs lists : List ℕ) → tablesWrong seqs lists ≡ false → u .runner .running ≡ false → unitStep flight u seqs lists ≡ cond (outOfRange flight u) (stepped (Denied 17) u) (stepped (Saw Idle) u)
 unfolding stepRows unitStep
-at-rest u seqs lists t n = simp (t, ← step-idle (envOf lists) seqs (u .runner) n) (rest-by (outOfRange u) u)
+at-rest u seqs lists t n = simp (t, ← step-idle (envOf flight lists) seqs (u .runner) n) (rest-by (outOfRange flight u) u)
 
 -- a step that shows IDLE leaves the unit as it was
-shown-idle : (u : Unit) (seqs lists : List ℕ) → unitStep u seqs lists .outcome ≡ Saw Idle → unitStep u seqs lists .unit ≡ u
+shown-idle : (u : Unit) (seqs lists : List ℕ) → unitStep flight u seqs lists .outcome ≡ Saw Idle → unitStep flight u seqs lists .unit ≡ u
 shown-idle u seqs lists o =
     let k = took u seqs lists Idle o in
     sym (k .part) ∙ ap₂ (λ (w : Watch) (r : Runner). withWatch w (withRunner r u)) (k .watch) (k .runner)
@@ -116,7 +116,7 @@ module _ (s seqs lists : List ℕ) where
   idle-keeps octets =
       let held = heldCode (tablesWrong seqs lists) s in
       let u = unitOf s in
-      idle-left (eqb held 0) held s u (unitStep u seqs lists)
+      idle-left (eqb held 0) held s u (unitStep flight u seqs lists)
       (λ z o. let (sized, (flags, lent)) = held-passed (tablesWrong seqs lists) s (eqb-true held 0 z) in ap stateOf (shown-idle u seqs lists o) ∙ load-save s sized octets flags)
 
   -- "16 and 17 leave every lent byte as it was"
@@ -126,10 +126,10 @@ module _ (s seqs lists : List ℕ) where
 
 -- ── a packet
 -- a refused packet changes the ledger alone
-pub refused-unit : (u : Unit) (seqs lists out p : List ℕ) → (codeOf u seqs lists out p ≡ 0 → ⊥) → withLedger (unitAfter u seqs lists out p .ledger) u ≡ unitAfter u seqs lists out p
+pub refused-unit : (u : Unit) (seqs lists out p : List ℕ) → (codeOf flight u seqs lists out p ≡ 0 → ⊥) → withLedger (unitAfter flight u seqs lists out p .ledger) u ≡ unitAfter flight u seqs lists out p
 refused-unit u seqs lists out p n =
-    let k = refused-keeps u seqs lists out p 0 n in
-    λ i. record { ledger = unitAfter u seqs lists out p .ledger; control = sym (k .control) i; watch = sym (k .watch) i; runner = sym (k .runner) i }
+    let k = refused-keeps flight u seqs lists out p 0 n in
+    λ i. record { ledger = unitAfter flight u seqs lists out p .ledger; control = sym (k .control) i; watch = sym (k .watch) i; runner = sym (k .runner) i }
 
 -- a code of the unit's own rules: the bytes are not refused before them
 passed-by : (held code : ℕ) → ((held ≡ 0 → ⊥) → 16 ≤ held) → cond (eqb held 0) code held ≤ 10 → (held ≡ 0) × (cond (eqb held 0) code held ≡ code)
@@ -183,8 +183,8 @@ module _ (s : List ℕ) (time : ℕ) (seqs lists out p : List ℕ) where
   refused-bytes octets low high =
       let lent = lentWrong seqs lists out in
       let u = unitOf s in
-      let v = unitAfter u seqs lists out p in
-      let (none, code) = passed-by (heldCode lent s) (codeOf u seqs lists out p) (held-high lent s (heldCode lent s) refl) high in
+      let v = unitAfter flight u seqs lists out p in
+      let (none, code) = passed-by (heldCode lent s) (codeOf flight u seqs lists out p) (held-high lent s (heldCode lent s) refl) high in
       let (sized, (flags, fits)) = held-passed lent s none in
       let part = refused-unit u seqs lists out p (λ z. omega (arith, code)) in
       let after : stateAfter s seqs lists out p ≡ stateOf (withLedger (v .ledger) u) = simp (lt-leb 16 (packetCode s seqs lists out p) (omega arith)) (ap stateOf (sym part)) in

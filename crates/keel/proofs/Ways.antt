@@ -10,7 +10,8 @@ use lib.Seq.{take-append-seam, drop-append-add}
 use borrow.Author.Tests.{leb-true, le-leb, ne-eqb}
 use Rattle.octets.specs.Bytes.{byteAt, two, eight}
 use Rattle.octets.proofs.LayoutLaws.{Octets}
-use Rattle.memory.specs.Memory.{tablesWrong, written}
+use Rattle.octets.proofs.Bools.{either}
+use Rattle.memory.specs.Memory.{flight, tablesWrong, written}
 use Rattle.runner.specs.declared.Event.{Event}
 use Rattle.runner.specs.declared.Event.the-variants.{Idle}
 use Rattle.runner.specs.Events.{shownAs}
@@ -18,15 +19,15 @@ use Rattle.survey.specs.declared.Report.{Report}
 use Rattle.survey.specs.Chain.{Told}
 use Rattle.survey.specs.Report.{endingShown, reportOf}
 use Rattle.unit.specs.declared.Unit.{Unit}
-use Rattle.unit.specs.declared.Kind.{Kind}
-use Rattle.unit.specs.declared.Kind.the-variants.{Status, Dump, Allow, Mode, Clear, Select, Uplink, Foreign, Unheard}
+use Rattle.unit.specs.declared.Telecommand.{Telecommand}
+use Rattle.unit.specs.declared.Telecommand.the-variants.{Status, Dump, Mode}
 use Rattle.unit.specs.declared.Answer.{Answer}
 use Rattle.unit.specs.declared.Outcome.the-variants.{Denied, Saw}
 use Rattle.unit.specs.declared.UnitStep.{UnitStep}
-use Rattle.unit.specs.State.{powerOn, outOfRange, moded}
-use Rattle.unit.specs.Packet.{lentWrong, codeOf}
+use Rattle.unit.specs.State.{withControl, withMode, powerOn, outOfRange, moded}
+use Rattle.unit.specs.Packet.{is, commandOf, lentWrong, codeOf}
 use Rattle.unit.specs.Status.{statusOf}
-use Rattle.unit.specs.Answer.{reply, commandOf, obeyedUnit, refusedUnit, unitAfter, replyOf, answerOf, seqsAfter, listsAfter, outAfter}
+use Rattle.unit.specs.Answer.{reply, effect, obeyedUnit, refusedUnit, unitAfter, replyOf, answerOf, seqsAfter, listsAfter, outAfter}
 use Rattle.unit.specs.Step.{stepped, unitStep}
 use Rattle.unit.proofs.Ways.{dump-short}
 use Rattle.keel.specs.State.{unitOf, stateOf}
@@ -35,29 +36,18 @@ use Rattle.keel.specs.Calls.{heldCode, packetCode, packetReply, packetAn
 use Rattle.keel.specs.Report.{reportBytes}
 use Rattle.keel.proofs.Laws.{load-save, held-high, held-passed, Took, took, at-rest, refused-unit}
 
--- what holds of both holds of either
-either : {A : Type 0} (P : A → Type 0) (t : Bool) (x y : A) → P x → P y → P (cond t x y)
-either P true x y h k = h
-either P false x y h k = k
-
 -- ── an answer's length
-reply-short : (k : Kind) (u : Unit) (time : ℕ) (seqs lists p : List ℕ) → length (reply k u time seqs lists p) ≤ 16384
+reply-short : (k : Telecommand) (u : Unit) (time : ℕ) (seqs lists p : List ℕ) → length (reply k u time seqs lists p) ≤ 16384
 unfolding reply statusOf
-reply-short Status u time seqs lists p = omega arith
-reply-short Dump u time seqs lists p = dump-short seqs lists p
-reply-short Allow u time seqs lists p = omega arith
-reply-short Mode u time seqs lists p = omega arith
-reply-short Clear u time seqs lists p = omega arith
-reply-short Select u time seqs lists p = omega arith
-reply-short Uplink u time seqs lists p = omega arith
-reply-short Foreign u time seqs lists p = omega arith
-reply-short Unheard u time seqs lists p = omega arith
+reply-short k u time seqs lists p =
+    let P : List ℕ → Type 0 = λ l. length l ≤ 16384 in
+    either P (is Status k) _ _ (omega arith) (either P (is Dump k) _ [] (dump-short seqs lists p) (omega arith))
 
 -- what answers a packet is never longer than the least output that is lent
-pub short : (u : Unit) (time : ℕ) (seqs lists out p : List ℕ) (a : Answer) → a ≡ answerOf u time seqs lists out p → a .length ≤ 16384
+pub short : (u : Unit) (time : ℕ) (seqs lists out p : List ℕ) (a : Answer) → a ≡ answerOf flight u time seqs lists out p → a .size ≤ 16384
 unfolding replyOf answerOf
 short u time seqs lists out p a e =
-    rw e (either (λ (l : List ℕ). length l ≤ 16384) (eqb (codeOf u seqs lists out p) 0) (reply (commandOf p) u time seqs lists p) [] (reply-short (commandOf p) u time seqs lists p) (omega arith))
+    rw e (either (λ (l : List ℕ). length l ≤ 16384) (eqb (codeOf flight u seqs lists out p) 0) (reply (commandOf p) u time seqs lists p) [] (reply-short (commandOf p) u time seqs lists p) (omega arith))
 
 -- ── a packet
 twice : {A : Type 0} (t : Bool) (a b : A) → cond t (cond t a b) b ≡ cond t a b
@@ -73,11 +63,11 @@ decided : (t : Bool) (x a b : List ℕ) → (t ≡ true → x ≡ a) → x ≡ b
 decided true x a b f g = f refl
 decided false x a b f g = g
 
-module _ (u : Unit) (time : ℕ) (seqs lists out p : List ℕ) (a : Answer) (e : a ≡ answerOf u time seqs lists out p) where
+module _ (u : Unit) (time : ℕ) (seqs lists out p : List ℕ) (a : Answer) (e : a ≡ answerOf flight u time seqs lists out p) where
   -- 16 and 17 leave the unit as it was
   pub answer-kept : 16 ≤ a .code → a .unit ≡ u
   unfolding answerOf unitAfter refusedUnit
-  answer-kept h = let k = rw e at h in rw e (simp (ne-eqb (codeOf u seqs lists out p) 0 (λ z. omega arith), le-leb 16 (codeOf u seqs lists out p) k))
+  answer-kept h = let k = rw e at h in rw e (simp (ne-eqb (codeOf flight u seqs lists out p) 0 (λ z. omega arith), le-leb 16 (codeOf flight u seqs lists out p) k))
 
   -- a refused packet: the ledger alone is written
   pub answer-refused : (s : List ℕ) → s ≡ stateOf u → (a .code ≡ 0 → ⊥) → ledgerOver (a .unit .ledger) s ≡ stateOf (a .unit)
@@ -93,9 +83,12 @@ module _ (u : Unit) (time : ℕ) (seqs lists out p : List ℕ) (a : Answer) (e :
 -- what a mode change writes, whether it starts, stops or neither
 pub mode-written : (p : List ℕ) (u : Unit) → let v = obeyedUnit Mode p u in
     runOver (v .watch) (v .runner) (placeOver (v .runner) (set (logOver (v .ledger) (stateOf u)) 0 (v .control .mode))) ≡ stateOf v
-unfolding stateOf obeyedUnit moded
+unfolding stateOf effect obeyedUnit moded
 mode-written p u =
-    let P : Unit → Type 0 = λ v. runOver (v .watch) (v .runner) (placeOver (v .runner) (set (logOver (v .ledger) (stateOf u)) 0 (v .control .mode))) ≡ stateOf v in
+    let P : Unit → Type 0 =
+    λ w.
+    let v = withControl (withMode (byteAt p 1) (u .control)) w in
+    runOver (v .watch) (v .runner) (placeOver (v .runner) (set (logOver (v .ledger) (stateOf u)) 0 (v .control .mode))) ≡ stateOf v in
     either P (eqb (byteAt p 1) 3) _ _ refl (either P (u .runner .running) _ _ refl refl)
 
 module _ (s : List ℕ) (time : ℕ) (seqs lists out p : List ℕ) where
@@ -119,13 +112,13 @@ module _ (s : List ℕ) (time : ℕ) (seqs lists out p : List ℕ) where
 
     -- the unit's answer stands, and its state where it is not refused with 16 or 17
     module _ (none : held ≡ 0) (u : Unit) (read : u ≡ unitOf s) (a : Answer) (seqs' lists' out' : List ℕ)
-        (e : (a ≡ answerOf u time seqs lists out p) × ((seqs' ≡ seqsAfter u seqs lists out p) × ((lists' ≡ listsAfter u seqs lists out p) × (out' ≡ outAfter u time seqs lists out p)))) where
-      stands : (s' : List ℕ) → s' ≡ cond (leb 16 (a .code)) s (stateOf (a .unit)) → Answered (a .code + 256 * a .length) s' seqs' lists' out'
+        (e : (a ≡ answerOf flight u time seqs lists out p) × ((seqs' ≡ seqsAfter flight u seqs lists out p) × ((lists' ≡ listsAfter flight u seqs lists out p) × (out' ≡ outAfter flight u time seqs lists out p)))) where
+      stands : (s' : List ℕ) → s' ≡ cond (leb 16 (a .code)) s (stateOf (a .unit)) → Answered (a .code + 256 * a .size) s' seqs' lists' out'
       unfolding packetCode packetReply packetAnswer stateAfter keptSeqs keptLists keptOut seqsAfter listsAfter outAfter replyOf answerOf
       stands s' f =
           simp (← holds, none, ← read, f, e .1 .0, e .1 .1 .0, e .1 .1 .1, e .0, twice, over) (refl, (refl, (refl, (refl, refl))))
 
-      pub answered : (s' : List ℕ) → Octets s → AnswerWritten a p s s' → Answered (a .code + 256 * a .length) s' seqs' lists' out'
+      pub answered : (s' : List ℕ) → Octets s → AnswerWritten a p s s' → Answered (a .code + 256 * a .size) s' seqs' lists' out'
       answered s' o w =
           let (sized, (flags, fits)) = held-passed lent s (sym told ∙ none) in
           let same : s ≡ stateOf u = sym (ap stateOf read ∙ load-save s sized o flags) in
@@ -146,7 +139,7 @@ module _ (s seqs lists : List ℕ) where
     step-held-back n = simp (← by-size, ne-eqb held 0 n) (refl, refl)
 
     module _ (none : held ≡ 0) (u : Unit) (read : u ≡ unitOf s) where
-      module _ (r : UnitStep) (e : r ≡ unitStep u seqs lists) where
+      module _ (r : UnitStep) (e : r ≡ unitStep flight u seqs lists) where
         pub denies : (code : ℕ) → r .outcome ≡ Denied code → Stepped (deniedAs code) s
         unfolding heldStep stepAnswer stateStepped
         denies code o = simp (← by-size, none, ← read, ← e, o) (refl, refl)
@@ -160,17 +153,17 @@ module _ (s seqs lists : List ℕ) where
 
       -- a unit that does not run: nothing is written
       module _ (still : u .runner .running ≡ false) where
-        rests : unitStep u seqs lists ≡ cond (outOfRange u) (stepped (Denied 17) u) (stepped (Saw Idle) u)
+        rests : unitStep flight u seqs lists ≡ cond (outOfRange flight u) (stepped (Denied 17) u) (stepped (Saw Idle) u)
         rests = let (sized, (flags, fits)) = held-passed lent s (sym told ∙ none) in at-rest u seqs lists (sym size ∙ fits) still
 
-        pub refuses : outOfRange u ≡ true → Stepped (deniedAs 17) s
+        pub refuses : outOfRange flight u ≡ true → Stepped (deniedAs 17) s
         refuses h = denies (stepped (Denied 17) u) (sym (simp h at rests)) 17 refl
 
-        pub idles : Octets s → outOfRange u ≡ false → Stepped 0 s
+        pub idles : Octets s → outOfRange flight u ≡ false → Stepped 0 s
         idles octets h = sees (stepped (Saw Idle) u) (sym (simp h at rests)) Idle s refl (same octets)
 
       -- a unit that runs: what the event moves is written
-      pub moves-on : (r : UnitStep) → r ≡ unitStep u seqs lists → Octets s → (event : Event) → r .outcome ≡ Saw event → (s' : List ℕ) → StepWritten event (r .unit .watch) (r .unit .runner) s s' → Stepped (packed (shownAs (r .unit .watch .exposures) event)) s'
+      pub moves-on : (r : UnitStep) → r ≡ unitStep flight u seqs lists → Octets s → (event : Event) → r .outcome ≡ Saw event → (s' : List ℕ) → StepWritten event (r .unit .watch) (r .unit .runner) s s' → Stepped (packed (shownAs (r .unit .watch .exposures) event)) s'
       moves-on r e octets event saw s' f =
           let k : Took u r event = rw e (took u seqs lists event (rw e at saw)) in
           sees r e event s' saw (f u (same octets) (k .watch) (k .runner) ∙ ap stateOf (k .part))

@@ -5,7 +5,7 @@ use mathlib.Core.List.{List, [], _∷_, _++_}
 use lib.Dec.{leb, eqb}
 use lib.ListN.{length, getD}
 use Rattle.octets.specs.Rows.{Row, row, firstCode}
-use Rattle.memory.specs.Memory.{tablesWrong}
+use Rattle.memory.specs.Memory.{flight, tablesWrong}
 use Rattle.runner.specs.declared.Event.{Event}
 use Rattle.runner.specs.Events.{Shown, shownAs}
 use Rattle.unit.specs.declared.Unit.{Unit}
@@ -38,27 +38,27 @@ heldCode lent s = firstCode (heldRows lent s)
 
 unfoldable pub packetCode : List ℕ → List ℕ → List ℕ → List ℕ → List ℕ → ℕ
 packetCode s seqs lists out p =
-    cond (eqb (heldCode (lentWrong seqs lists out) s) 0) (codeOf (unitOf s) seqs lists out p) (heldCode (lentWrong seqs lists out) s)
+    cond (eqb (heldCode (lentWrong seqs lists out) s) 0) (codeOf flight (unitOf s) seqs lists out p) (heldCode (lentWrong seqs lists out) s)
 
 -- the bytes that answer, none where the packet is refused
 unfoldable pub packetReply : List ℕ → ℕ → List ℕ → List ℕ → List ℕ → List ℕ → List ℕ
-packetReply s time seqs lists out p = cond (eqb (packetCode s seqs lists out p) 0) (replyOf (unitOf s) time seqs lists out p) []
+packetReply s time seqs lists out p = cond (eqb (packetCode s seqs lists out p) 0) (replyOf flight (unitOf s) time seqs lists out p) []
 
 unfoldable pub packetAnswer : List ℕ → ℕ → List ℕ → List ℕ → List ℕ → List ℕ → ℕ
 packetAnswer s time seqs lists out p = packetCode s seqs lists out p + 256 * length (packetReply s time seqs lists out p)
 
 -- what is left in each lent slice
 unfoldable pub stateAfter : List ℕ → List ℕ → List ℕ → List ℕ → List ℕ → List ℕ
-stateAfter s seqs lists out p = cond (leb 16 (packetCode s seqs lists out p)) s (stateOf (unitAfter (unitOf s) seqs lists out p))
+stateAfter s seqs lists out p = cond (leb 16 (packetCode s seqs lists out p)) s (stateOf (unitAfter flight (unitOf s) seqs lists out p))
 
 unfoldable pub keptSeqs : List ℕ → List ℕ → List ℕ → List ℕ → List ℕ → List ℕ
-keptSeqs s seqs lists out p = cond (eqb (packetCode s seqs lists out p) 0) (seqsAfter (unitOf s) seqs lists out p) seqs
+keptSeqs s seqs lists out p = cond (eqb (packetCode s seqs lists out p) 0) (seqsAfter flight (unitOf s) seqs lists out p) seqs
 
 unfoldable pub keptLists : List ℕ → List ℕ → List ℕ → List ℕ → List ℕ → List ℕ
-keptLists s seqs lists out p = cond (eqb (packetCode s seqs lists out p) 0) (listsAfter (unitOf s) seqs lists out p) lists
+keptLists s seqs lists out p = cond (eqb (packetCode s seqs lists out p) 0) (listsAfter flight (unitOf s) seqs lists out p) lists
 
 unfoldable pub keptOut : List ℕ → ℕ → List ℕ → List ℕ → List ℕ → List ℕ → List ℕ
-keptOut s time seqs lists out p = cond (eqb (packetCode s seqs lists out p) 0) (outAfter (unitOf s) time seqs lists out p) out
+keptOut s time seqs lists out p = cond (eqb (packetCode s seqs lists out p) 0) (outAfter flight (unitOf s) time seqs lists out p) out
 
 -- ── keel_step: "low 8 bits the event .., its values in 16 bits each at bits 16, 32 and 48"
 abbrev pub packed : Shown → ℕ
@@ -78,7 +78,7 @@ steppedAs r = outcomeAs (r .unit .watch .exposures) (r .outcome)
 -- the unit's step, or what the bytes of the state are refused for
 unfoldable pub heldStep : List ℕ → List ℕ → List ℕ → UnitStep
 heldStep s seqs lists =
-    cond (eqb (heldCode (tablesWrong seqs lists) s) 0) (unitStep (unitOf s) seqs lists) (stepped (Denied (heldCode (tablesWrong seqs lists) s)) (unitOf s))
+    cond (eqb (heldCode (tablesWrong seqs lists) s) 0) (unitStep flight (unitOf s) seqs lists) (stepped (Denied (heldCode (tablesWrong seqs lists) s)) (unitOf s))
 
 unfoldable pub stepAnswer : List ℕ → List ℕ → List ℕ → ℕ
 stepAnswer s seqs lists = steppedAs (heldStep s seqs lists)

@@ -6,6 +6,7 @@ use mathlib.Core.List.{List, _∷_, _++_}
 use lib.Dec.{eqb}
 use lib.ListN.{length}
 use Rattle.octets.specs.Bytes.{two, eight}
+use Rattle.memory.specs.Memory.{flight}
 use Rattle.survey.specs.Chain.{Told, checkOf}
 use Rattle.survey.specs.Report.{endingShown, padded}
 
@@ -19,7 +20,7 @@ reportSized r = eqb (length r) 152
 
 -- "another size: 16, untouched"
 unfoldable pub checkAnswer : List ℕ → List ℕ → ℕ → List ℕ → ℕ
-checkAnswer seqs lists n r = cond (reportSized r) (endingShown (checkOf seqs lists n .ending) .code) 16
+checkAnswer seqs lists n r = cond (reportSized r) (endingShown (checkOf flight seqs lists n .ending) .code) 16
 
 unfoldable pub reportAfter : List ℕ → List ℕ → ℕ → List ℕ → List ℕ
-reportAfter seqs lists n r = cond (reportSized r) (reportBytes (checkOf seqs lists n)) r
+reportAfter seqs lists n r = cond (reportSized r) (reportBytes (checkOf flight seqs lists n)) r

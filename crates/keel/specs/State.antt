@@ -32,10 +32,10 @@ stateFields u =
     ∷ field 21 (Word (u .runner .mirror))
     ∷ field 23 (Flag (u .runner .running))
     ∷ field 24 (Flag (u .runner .entering))
-    ∷ field 25 (Byte (u .runner .raster))
-    ∷ field 26 (Byte (u .runner .count))
-    ∷ field 27 (Word (u .runner .passes))
-    ∷ field 29 (Word (u .runner .repeats))
+    ∷ field 25 (Byte (u .runner .raster .place))
+    ∷ field 26 (Byte (u .runner .raster .count))
+    ∷ field 27 (Word (u .runner .raster .passes))
+    ∷ field 29 (Word (u .runner .raster .repeats))
     ∷ field 31 (Byte (u .runner .rounds))
     ∷ []
 
@@ -62,10 +62,7 @@ unitFrom f =
             place = numberAt f 17;
             running = flagAt f 23;
             entering = flagAt f 24;
-            raster = numberAt f 25;
-            count = numberAt f 26;
-            passes = numberAt f 27;
-            repeats = numberAt f 29;
+            raster = record { place = numberAt f 25; count = numberAt f 26; passes = numberAt f 27; repeats = numberAt f 29 };
             rounds = numberAt f 31;
             mirror = numberAt f 21;
           };

@@ -11,16 +11,18 @@ ghost use Rattle.keel.specs.State.{unitOf, flagsWrong};
 ghost use Rattle.keel.specs.Parts.{logOver, ledgerOver, placeOver, runOver, rasterOver, StepWritten, ObeyedWritten, AnswerWritten};
 ghost use Rattle.keel.specs.Calls.{heldCode, powerCode, poweredOn, packetAnswer, stateAfter, keptSeqs, keptLists, keptOut, packed, deniedAs, stepAnswer, stateStepped};
 ghost use Rattle.keel.specs.Report.{reportBytes, checkAnswer, reportAfter};
+use memory::Format;
 use runner::Event;
+use runner::OpenRaster;
 use runner::Runner;
 use survey::Ending;
 use survey::Report;
 use unit::Answer;
 use unit::Control;
-use unit::Kind;
 use unit::Ledger;
 use unit::Log;
 use unit::Outcome;
+use unit::Telecommand;
 use unit::Unit;
 use unit::Watch;
 
@@ -71,10 +73,12 @@ fn unit_of(state: &[u8]) -> Unit
             place: state[17],
             running: state[23] != 0,
             entering: state[24] != 0,
-            raster: state[25],
-            count: state[26],
-            passes: word_in(state, 27),
-            repeats: word_in(state, 29),
+            raster: OpenRaster {
+                place: state[25],
+                count: state[26],
+                passes: word_in(state, 27),
+                repeats: word_in(state, 29),
+            },
             rounds: state[31],
             mirror: word_in(state, 21),
         },
@@ -154,7 +158,7 @@ fn save_run(watch: Watch, runner: Runner, state: &mut [u8])
     put_word(state, 19, watch.exposures);
     put_flag(state, 23, runner.running);
     put_flag(state, 24, runner.entering);
-    put(state, 25, runner.raster);
+    put(state, 25, runner.raster.place);
 }
 
 // Writes the mirror and the open raster over the bytes of a state.
@@ -163,44 +167,44 @@ fn save_raster(runner: Runner, state: &mut [u8])
     ensures { λ _. ⌜ now (state .exit) ≡ rasterOver runner (now (state .entry)) ⌝ }
 {
     put_word(state, 21, runner.mirror);
-    put(state, 25, runner.raster);
-    put(state, 26, runner.count);
-    put_word(state, 27, runner.passes);
-    put_word(state, 29, runner.repeats);
+    put(state, 25, runner.raster.place);
+    put(state, 26, runner.raster.count);
+    put_word(state, 27, runner.raster.passes);
+    put_word(state, 29, runner.raster.repeats);
 }
 
-// Writes what an obeyed packet of this kind changes over the bytes of a state.
-fn save_obeyed(kind: Kind, unit: Unit, state: &mut [u8])
+// Writes what an obeyed packet of this command changes over the bytes of a state.
+fn save_obeyed(command: Telecommand, unit: Unit, state: &mut [u8])
     requires { ⌜ length (now state) ≡ 32 ⌝ }
-    ensures { λ _. ⌜ ObeyedWritten kind unit (now (state .entry)) (now (state .exit)) ⌝ }
+    ensures { λ _. ⌜ ObeyedWritten command unit (now (state .entry)) (now (state .exit)) ⌝ }
 {
-    match kind {
-        Kind::Status => put_word(state, 2, unit.control.requests),
-        Kind::Dump => save_log(unit.ledger, state),
-        Kind::Allow => {
+    match command {
+        Telecommand::Status => put_word(state, 2, unit.control.requests),
+        Telecommand::Dump => save_log(unit.ledger, state),
+        Telecommand::Allow => {
             save_log(unit.ledger, state);
             put_flag(state, 1, unit.control.allowed);
         }
-        Kind::Mode => {
+        Telecommand::Mode => {
             save_log(unit.ledger, state);
             put(state, 0, unit.control.mode);
             save_place(unit.runner, state);
             save_run(unit.watch, unit.runner, state);
         }
-        Kind::Clear => {
+        Telecommand::Clear => {
             save_log(unit.ledger, state);
             put(state, 8, unit.ledger.code);
             put(state, 9, unit.ledger.number);
             put(state, 10, unit.watch.abort);
         }
-        Kind::Select => {
+        Telecommand::Select => {
             save_log(unit.ledger, state);
             put(state, 15, unit.control.selection);
             save_place(unit.runner, state);
         }
-        Kind::Uplink => save_log(unit.ledger, state),
-        Kind::Foreign => save_log(unit.ledger, state),
-        Kind::Unheard => save_log(unit.ledger, state),
+        Telecommand::Uplink => save_log(unit.ledger, state),
+        Telecommand::Foreign => save_log(unit.ledger, state),
+        Telecommand::Unheard => save_log(unit.ledger, state),
     }
 }
 
@@ -211,7 +215,7 @@ fn save_answer(answer: Answer, packet: &[u8], state: &mut [u8])
 {
     let unit = answer.unit;
     if answer.code == 0 {
-        save_obeyed(unit::kind_of(octets::byte(packet, 0)), unit, state);
+        save_obeyed(unit::telecommand_of(octets::byte(packet, 0)), unit, state);
         return;
     }
     if answer.code < 16 {
@@ -263,11 +267,11 @@ pub extern "C" fn keel_power_on(state: &mut [u8]) -> u32
 }
 
 // A code, and 256 times the length of an answer.
-fn answer_of(code: u8, length: usize) -> u32
-    requires { ⌜ length ≤ 16384 ⌝ }
-    ensures { λ r. ⌜ r ≡ code + 256 * length ⌝ }
+fn answer_of(code: u8, size: usize) -> u32
+    requires { ⌜ size ≤ 16384 ⌝ }
+    ensures { λ r. ⌜ r ≡ code + 256 * size ⌝ }
 {
-    code as u32 + 256 * length as u32
+    code as u32 + 256 * size as u32
 }
 
 // One packet: the code, and 256 times the length of what was written to the output.
@@ -290,9 +294,9 @@ pub extern "C" fn keel_packet(
     if held != 0 {
         return held as u32;
     }
-    let answer = unit_of(state).packet(seqs, lists, out, time, packet);
+    let answer = unit_of(state).packet(Format::flight(), seqs, lists, out, time, packet);
     save_answer(answer, packet, state);
-    answer_of(answer.code, answer.length)
+    answer_of(answer.code, answer.size)
 }
 
 // An event's number and its values as one number.
@@ -305,56 +309,48 @@ fn packed(number: u8, first: u16, second: u16, third: u16) -> u64
         + third as u64 * 281474976710656
 }
 
-// Writes what a step of this event moves over the bytes of a state, and gives the event as one number.
+// Writes what a step of this event moves over the bytes of a state, the place always, and gives the event as one number.
 fn tell_step(event: Event, watch: Watch, runner: Runner, state: &mut [u8]) -> u64
     requires { ⌜ length (now state) ≡ 32 ⌝ }
     ensures { λ r. ⌜ r ≡ packed (shownAs (watch .exposures) event) ⌝ }
     ensures { λ _. ⌜ StepWritten event watch runner (now (state .entry)) (now (state .exit)) ⌝ }
 {
+    put(state, 17, runner.place);
     match event {
         Event::Idle => 0,
         Event::Enter(s) => {
-            put(state, 17, runner.place);
             put_flag(state, 24, runner.entering);
             put(state, 31, runner.rounds);
             packed(1, s as u16, 0, 0)
         }
         Event::Raster(id, pos, list) => {
-            put(state, 17, runner.place);
             put(state, 18, list);
             save_raster(runner, state);
             packed(2, id, pos, 0)
         }
         Event::Exp(pos) => {
-            put(state, 17, runner.place);
             put_word(state, 19, watch.exposures);
             put_word(state, 21, runner.mirror);
-            put(state, 26, runner.count);
+            put(state, 26, runner.raster.count);
             packed(3, watch.exposures, pos, 0)
         }
         Event::Loop(place) => {
-            put(state, 17, runner.place);
-            put(state, 26, runner.count);
-            put_word(state, 27, runner.passes);
+            put(state, 26, runner.raster.count);
+            put_word(state, 27, runner.raster.passes);
             packed(4, place as u16, 0, 0)
         }
         Event::Next => {
-            put(state, 17, runner.place);
-            put_word(state, 29, runner.repeats);
+            put_word(state, 29, runner.raster.repeats);
             put(state, 31, runner.rounds);
             5
         }
         Event::Done => {
-            put(state, 17, runner.place);
-            put(state, 25, runner.raster);
+            put(state, 25, runner.raster.place);
             6
         }
-        Event::Wait(t) => {
-            put(state, 17, runner.place);
-            packed(7, t, 0, 0)
-        }
+        Event::Wait(t) => packed(7, t, 0, 0),
         Event::Call(s) => {
-            save_place(runner, state);
+            put(state, 16, runner.sequence);
             put_flag(state, 24, runner.entering);
             packed(8, s as u16, 0, 0)
         }
@@ -364,7 +360,6 @@ fn tell_step(event: Event, watch: Watch, runner: Runner, state: &mut [u8]) -> u6
         }
         Event::Abort(code, s, place) => {
             put(state, 10, code);
-            put(state, 17, runner.place);
             put_flag(state, 23, runner.running);
             packed(10, code as u16, s as u16, place as u16)
         }
@@ -390,12 +385,12 @@ pub extern "C" fn keel_step(state: &mut [u8], seqs: &[u8], lists: &[u8]) -> u64
     }
     let unit = unit_of(state);
     if !unit.runner.running {
-        if unit.out_of_range() {
+        if unit.out_of_range(Format::flight()) {
             return denied(17);
         }
         return 0;
     }
-    let stepped = unit.step(seqs, lists);
+    let stepped = unit.step(Format::flight(), seqs, lists);
     let outcome = stepped.outcome;
     match outcome {
         Outcome::Denied(code) => denied(code),
@@ -437,11 +432,11 @@ fn verdict_of(ending: Ending) -> Verdict
             sequence: 0,
             place: 0,
         },
-        Ending::Faulty(code, sequence, place) => Verdict {
-            code,
+        Ending::Faults(sequence, fault) => Verdict {
+            code: fault.code,
             number: 3,
             sequence,
-            place,
+            place: fault.place,
         },
     }
 }

@@ -11,17 +11,10 @@ use lib.ListN.{length, set, take, drop, length-append, length-set, length-drop, 
 use lib.Seq.{append-snoc, set-split, drop-at, length-take-le, take-all}
 use lib.Dec.{ltb, eqb}
 use borrow.Author.Tests.{lt-ltb, le-ltb, ltb-true, ltb-false, eqb-true}
+use Rattle.octets.proofs.Bools.{and-both, by-test}
 use Rattle.line.specs.Digits.{digitOf, valueOf, isHex, spell, decimal}
 
 -- ── tests of single bytes
-pub both : (a b : Bool) → (a && b) ≡ true → (a ≡ true) × (b ≡ true)
-both true b e = (refl, e)
-both false b e = absurd (false≢true e)
-
-pub either : {P : Type 0} (t : Bool) → (t ≡ true → P) → (t ≡ false → P) → P
-either true f g = f refl
-either false f g = g refl
-
 -- a test holds of every number below a bound
 abbrev below : (ℕ → Bool) → ℕ → Bool
 below f zero = true
@@ -30,8 +23,8 @@ below f (suc n) = f n && below f n
 pub tested : (f : ℕ → Bool) (n : ℕ) → below f n ≡ true → (k : ℕ) → k < n → f k ≡ true
 tested f zero e k h = absurd (omega arith)
 tested f (suc n) e k h =
-    let (last, rest) = both (f n) (below f n) e in
-    either (ltb k n)
+    let (last, rest) = and-both (f n) (below f n) e in
+    by-test (ltb k n)
     (λ t. tested f n rest k (ltb-true k n t))
     (λ t. let l = ltb-false k n t in let g : k ≡ n = omega arith in ap f g ∙ last)
 
@@ -93,7 +86,7 @@ spell-enough : (k n : ℕ) → n < 10 ^ suc k → spell (suc k) n ≡ spell k n
 unfolding spell
 spell-enough zero n h = rw (lt-ltb n 10 h)
 spell-enough (suc k) n h =
-    either (ltb n 10)
+    by-test (ltb n 10)
     (λ t. rw t)
     (λ t. rw (t, spell-enough k (n / 10) (tens k n h)))
 
@@ -111,7 +104,7 @@ unfolding spell
 spell-length zero n = (omega arith, omega arith)
 spell-length (suc k) n =
     let (some, few) = spell-length k (n / 10) in
-    either (ltb n 10)
+    by-test (ltb n 10)
     (λ t. rw t (omega arith, omega arith))
     (λ t. rw (t, length-append (spell k (n / 10)) (digitOf (n % 10) ∷ [])) (omega arith, omega arith))
 

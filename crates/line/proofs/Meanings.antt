@@ -11,13 +11,14 @@ use lib.ListN.{length, getD, set, take, drop, length-append, List·getD-append}
 use lib.Seq.{sets, sets-eq, take-at}
 use borrow.Author.Tests.{lt-ltb, le-leb, ne-eqb, ltb-true, ltb-false, eqb-true}
 use Rattle.octets.specs.Words.{bytesOf}
+use Rattle.octets.proofs.Bools.{and-both, by-test}
 use Rattle.line.specs.Digits.{digitOf, valueOf, hexOf, bytesIn, spell, decimal, shownOn, isDigit, all, each}
-use Rattle.line.specs.Writing.{lastPlace, after, laid, Laid}
-use Rattle.line.specs.Reading.{isFigure, zeroLeads, numberOf, begins, isPacket, stepsFrom, stepsOf, lineOf, packetAfter}
+use Rattle.line.specs.Writing.{lastPlace, placeAfter, putOver, Laid}
+use Rattle.line.specs.Reading.{isFigure, zeroLeads, numeralOf, begins, isPacket, stepsFrom, stepsLine, lineOf, packetAfter}
 use Rattle.line.specs.declared.Line.the-variants.{Packet, Steps, Bad}
 use Rattle.line.specs.declared.Numeral.{Numeral}
 use Rattle.line.specs.declared.Numeral.the-variants.{Value, Wrong}
-use Rattle.line.proofs.DigitLaws.{either, both, tested, digit-low, tens}
+use Rattle.line.proofs.DigitLaws.{tested, digit-low, tens}
 use Rattle.line.proofs.WritingLaws.{next-place}
 use Rattle.line.proofs.ReadingLaws.{packet-told}
 
@@ -26,18 +27,18 @@ use Rattle.line.proofs.ReadingLaws.{packet-told}
 pub one-result : {o a b : List ℕ} {at r s : ℕ} {text : List ℕ} → Laid o a at r text → Laid o b at s text → (a ≡ b) × (r ≡ s)
 one-result p q = (p .bytes ∙ sym (q .bytes), p .place ∙ sym (q .place))
 
-pub place-fits : (at n : ℕ) → at + n ≤ lastPlace → after at n ≡ at + n
-unfolding after
+pub place-fits : (at n : ℕ) → at + n ≤ lastPlace → placeAfter at n ≡ at + n
+unfolding placeAfter
 place-fits at n h = omega arith
 
-laid-sets : (o : List ℕ) (at : ℕ) (text : List ℕ) → at + length text ≤ lastPlace → laid o at text ≡ sets o at text
-unfolding laid
+laid-sets : (o : List ℕ) (at : ℕ) (text : List ℕ) → at + length text ≤ lastPlace → putOver o at text ≡ sets o at text
+unfolding putOver
 laid-sets o at [] h = refl
 laid-sets o at (b ∷ text) h =
     rw (next-place at (omega arith), add-one at) (laid-sets (set o at b) (suc at) text (omega arith))
 
 pub laid-fits : (o : List ℕ) (at : ℕ) (text : List ℕ) → at + length text ≤ length o → length o ≤ lastPlace
-    → laid o at text ≡ take at o ++ text ++ drop (at + length text) o
+    → putOver o at text ≡ take at o ++ text ++ drop (at + length text) o
 laid-fits o at text h k = laid-sets o at text (omega arith) ∙ sets-eq text o at h
 
 -- ── a packet's line
@@ -56,11 +57,11 @@ packet-bytes l p e k =
 
 -- the packet that a line is has no more bytes than the lent one
 pub packet-size : (l : List ℕ) (n : ℕ) → lineOf l ≡ Packet n → n ≤ 140
-unfolding lineOf stepsOf
+unfolding lineOf stepsLine
 packet-size l n e =
-    either (isPacket l)
+    by-test (isPacket l)
     (λ t. let g : length l / 2 ≡ n = is n (rw t at e) in let u = packet-told l t in omega arith)
-    (λ t. absurd (never (begins (bytesOf "STEP ") l) (numberOf (drop 5 l)) n (rw t at e)))
+    (λ t. absurd (never (begins (bytesOf "STEP ") l) (numeralOf (drop 5 l)) n (rw t at e)))
   where
     is : {m : ℕ} (k : ℕ) → Packet m ≡ Packet k → m ≡ k
     is k f = cc
@@ -74,7 +75,7 @@ packet-size l n e =
     never : (b : Bool) (m : Numeral) (k : ℕ) → cond b (stepsFrom m) Bad ≡ Packet k → ⊥
     never false m k f = no-bad f
     never true Wrong k f = no-bad f
-    never true (Value v) k f = either (eqb v 0) (λ t. no-bad (rw t at f)) (λ t. no-steps (rw t at f))
+    never true (Value v) k f = by-test (eqb v 0) (λ t. no-bad (rw t at f)) (λ t. no-steps (rw t at f))
 
 -- ── a byte in hex, read back
 digit-value : (n : ℕ) → n < 16 → valueOf (digitOf n) ≡ n
@@ -85,7 +86,7 @@ pub hex-back : (s : List ℕ) → all (λ (b : ℕ). ltb b 256) s ≡ true → b
 unfolding each bytesIn all
 hex-back [] e = refl
 hex-back (b ∷ s) e =
-    let (h, t) = both (ltb b 256) (all (λ (x : ℕ). ltb x 256) s) e in
+    let (h, t) = and-both (ltb b 256) (all (λ (x : ℕ). ltb x 256) s) e in
     let k = ltb-true b 256 h in
     let g : b / 16 * 16 + b % 16 ≡ b = omega arith in
     rw (digit-value (b / 16) (omega arith), digit-value (b % 16) (omega arith), g, hex-back s t)
@@ -99,7 +100,7 @@ shown-more n (b ∷ s) d = shown-more (n * 10 + (b - 48)) s d
 all-more : (test : ℕ → Bool) (s : List ℕ) (d : ℕ) → all test s ≡ true → test d ≡ true → all test (s ++ (d ∷ [])) ≡ true
 unfolding all
 all-more test [] d e t = rw t
-all-more test (b ∷ s) d e t = let (p, q) = both (test b) (all test s) e in rw (p, all-more test s d q t)
+all-more test (b ∷ s) d e t = let (p, q) = and-both (test b) (all test s) e in rw (p, all-more test s d q t)
 
 -- the text of a number: digits that show it, and no zero first but for 0 alone
 pub record Reads (n : ℕ) (s : List ℕ) : Type 0 where
@@ -135,7 +136,7 @@ reads-spell : (k n : ℕ) → n < 10 ^ suc k → Reads n (spell k n)
 unfolding spell
 reads-spell zero n h = reads-digit n h
 reads-spell (suc k) n h =
-    either (ltb n 10)
+    by-test (ltb n 10)
     (λ t. rw t (reads-digit n (ltb-true n 10 t)))
     (λ t. let l = ltb-false n 10 t in rw t (reads-more n (spell k (n / 10)) l (reads-spell k (n / 10) (tens k n h))))
 
@@ -148,8 +149,8 @@ unfolding zeroLeads decimal spell digitOf
 no-zero-leads zero h = refl
 no-zero-leads (suc n) h = rw (ne-eqb (getD (decimal (suc n)) 0 0) 48 (decimal-reads (suc n) h .first (omega arith)))
 
-pub number-back : (n : ℕ) → n ≤ 65535 → numberOf (decimal n) ≡ Value n
-unfolding numberOf isFigure
+pub number-back : (n : ℕ) → n ≤ 65535 → numeralOf (decimal n) ≡ Value n
+unfolding numeralOf isFigure
 number-back n h =
     let r = decimal-reads n (omega arith) in
     rw (lt-ltb 0 (length (decimal n)) (r .some), r .digits, no-zero-leads n (omega arith), r .shown, le-leb n 65535 h)

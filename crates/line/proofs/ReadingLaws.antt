@@ -11,12 +11,12 @@ use lib.Dec.{ltb, leb, eqb}
 use lib.ListN.{length, getD, set, drop, length-drop, drop-of-length-le, List·getD-eq-default}
 use lib.Seq.{drop-cons, getD-drop}
 use borrow.Author.Tests.{lt-ltb, le-ltb, le-leb, lt-leb, eq-eqb, ne-eqb, ltb-true, leb-true, eqb-true}
+use Rattle.octets.proofs.Bools.{and-both, by-test}
 use Rattle.line.specs.Digits.{valueOf, isHex, bytesIn, isDigit, shownOn, all}
-use Rattle.line.specs.Writing.{laid}
-use Rattle.line.specs.Reading.{isFigure, zeroLeads, numberOf, begins, isPacket}
+use Rattle.line.specs.Writing.{putOver}
+use Rattle.line.specs.Reading.{isFigure, zeroLeads, numeralOf, begins, isPacket}
 use Rattle.line.specs.declared.Numeral.{Numeral}
 use Rattle.line.specs.declared.Numeral.the-variants.{Value, Wrong}
-use Rattle.line.proofs.DigitLaws.{either, both}
 use Rattle.line.proofs.WritingLaws.{next-place}
 
 -- ── a test of every byte
@@ -36,8 +36,8 @@ module _ (test : ℕ → Bool) (l : List ℕ) (i : ℕ) where
 pub all-at : (test : ℕ → Bool) (l : List ℕ) (i : ℕ) → all test l ≡ true → i < length l → test (getD l i 0) ≡ true
 unfolding all
 all-at test [] i e h = absurd (omega arith)
-all-at test (b ∷ l) zero e h = both (test b) (all test l) e .0
-all-at test (b ∷ l) (suc i) e h = all-at test l i (both (test b) (all test l) e .1) (omega arith)
+all-at test (b ∷ l) zero e h = and-both (test b) (all test l) e .0
+all-at test (b ∷ l) (suc i) e h = all-at test l i (and-both (test b) (all test l) e .1) (omega arith)
 
 -- ── a word at the start
 module _ (w l : List ℕ) (i : ℕ) (h : i < length w) (k : i < length l) where
@@ -57,7 +57,7 @@ pub begins-short : (w l : List ℕ) → length l < length w → begins w l ≡ f
 unfolding begins
 begins-short [] l h = absurd (omega arith)
 begins-short (x ∷ w) [] h = refl
-begins-short (x ∷ w) (b ∷ l) h = rw (begins-short w l (omega arith)) (either (eqb x b) (λ t. rw t) (λ t. rw t))
+begins-short (x ∷ w) (b ∷ l) h = rw (begins-short w l (omega arith)) (by-test (eqb x b) (λ t. rw t) (λ t. rw t))
 
 -- ── decimal digits
 -- what digits come to, after digits that showed n
@@ -72,7 +72,7 @@ shown-least n (d ∷ s) = omega (arith, shown-least (n * 10 + (d - 48)) s)
 
 pub read-large : (n : ℕ) (s : List ℕ) → 65535 < n → readOn n s ≡ Wrong
 read-large n s h =
-    rw (lt-leb (shownOn n s) 65535 (omega (arith, shown-least n s))) (either (all isDigit s) (λ t. rw t) (λ t. rw t))
+    rw (lt-leb (shownOn n s) 65535 (omega (arith, shown-least n s))) (by-test (all isDigit s) (λ t. rw t) (λ t. rw t))
 
 module _ (s : List ℕ) (i n : ℕ) (h : i < length s) where
   pub read-on : 48 ≤ getD s i 0 → getD s i 0 ≤ 57 → readOn (n * 10 + (getD s i 0 - 48)) (drop (i + 1) s) ≡ readOn n (drop i s)
@@ -103,7 +103,7 @@ module _ (s : List ℕ) (i : ℕ) where
 
   pub inside : getD s i 0 ≡ 48 → i < length s
   inside e =
-      either (ltb i (length s)) (λ t. ltb-true i (length s) t)
+      by-test (ltb i (length s)) (λ t. ltb-true i (length s) t)
       (λ t. absurd (omega (arith, List·getD-eq-default s 0 {n = i} (borrow.Author.Tests.ltb-false i (length s) t))))
 
   pub zero-first : getD s i 0 ≡ 48 → ltb (i + 1) (length s) ≡ zeroLeads (drop i s)
@@ -112,29 +112,29 @@ module _ (s : List ℕ) (i : ℕ) where
     where
       shift : (a n : ℕ) → ltb (a + 1) n ≡ ltb 1 (n - a)
       shift a n =
-          either (ltb (a + 1) n)
+          by-test (ltb (a + 1) n)
           (λ t. let k = ltb-true (a + 1) n t in t ∙ sym (lt-ltb 1 (n - a) (omega arith)))
           (λ t. let k = borrow.Author.Tests.ltb-false (a + 1) n t in t ∙ sym (le-ltb 1 (n - a) (omega arith)))
 
-  pub number-none : length s ≤ i → Wrong ≡ numberOf (drop i s)
-  unfolding numberOf isFigure
+  pub number-none : length s ≤ i → Wrong ≡ numeralOf (drop i s)
+  unfolding numeralOf isFigure
   number-none h = rw (drop-of-length-le s {i = i} h)
 
-  pub number-led : zeroLeads (drop i s) ≡ true → Wrong ≡ numberOf (drop i s)
-  unfolding numberOf
-  number-led z = rw z (either (isFigure (drop i s)) (λ t. rw t) (λ t. rw t))
+  pub number-led : zeroLeads (drop i s) ≡ true → Wrong ≡ numeralOf (drop i s)
+  unfolding numeralOf
+  number-led z = rw z (by-test (isFigure (drop i s)) (λ t. rw t) (λ t. rw t))
 
-  pub number-read : i < length s → zeroLeads (drop i s) ≡ false → readOn 0 (drop i s) ≡ numberOf (drop i s)
-  unfolding numberOf isFigure
+  pub number-read : i < length s → zeroLeads (drop i s) ≡ false → readOn 0 (drop i s) ≡ numeralOf (drop i s)
+  unfolding numeralOf isFigure
   number-read h z =
-      rw (lt-ltb 0 (length (drop i s)) (omega (arith, length-drop i s)), z) (either (all isDigit (drop i s)) (λ t. rw t) (λ t. rw t))
+      rw (lt-ltb 0 (length (drop i s)) (omega (arith, length-drop i s)), z) (by-test (all isDigit (drop i s)) (λ t. rw t) (λ t. rw t))
 
 -- ── a packet
 pub packet-told : (l : List ℕ) → isPacket l ≡ true → (length l % 2 ≡ 0) × (length l ≤ 280) × (all isHex l ≡ true)
 unfolding isPacket
 packet-told l e =
-    let (p, h) = both (eqb (length l % 2) 0 && leb (length l) 280) (all isHex l) e in
-    let (q, r) = both (eqb (length l % 2) 0) (leb (length l) 280) p in
+    let (p, h) = and-both (eqb (length l % 2) 0 && leb (length l) 280) (all isHex l) e in
+    let (q, r) = and-both (eqb (length l % 2) 0) (leb (length l) 280) p in
     (eqb-true (length l % 2) 0 q, leb-true (length l) 280 r, h)
 
 module _ (l : List ℕ) (e : isPacket l ≡ true) where
@@ -160,12 +160,12 @@ bytes-on l i h =
 module _ (p l : List ℕ) (i : ℕ) where
   pub packet-on : (x : ℕ) → 2 * i + 1 < length l → i < 140
       → x ≡ valueOf (getD l (2 * i) 0) * 16 + valueOf (getD l (2 * i + 1) 0)
-      → laid (set p i x) (i + 1) (bytesIn (drop (2 * (i + 1)) l)) ≡ laid p i (bytesIn (drop (2 * i) l))
-  unfolding laid
+      → putOver (set p i x) (i + 1) (bytesIn (drop (2 * (i + 1)) l)) ≡ putOver p i (bytesIn (drop (2 * i) l))
+  unfolding putOver
   packet-on x h k e =
       rw (bytes-on l i h, ← e)
-      (ap (λ (n : ℕ). laid (set p i x) n (bytesIn (drop (2 * (i + 1)) l))) (sym (next-place i (omega arith))))
+      (ap (λ (n : ℕ). putOver (set p i x) n (bytesIn (drop (2 * (i + 1)) l))) (sym (next-place i (omega arith))))
 
-  pub packet-end : length l ≤ 2 * i → laid p i (bytesIn (drop (2 * i) l)) ≡ p
-  unfolding laid bytesIn
+  pub packet-end : length l ≤ 2 * i → putOver p i (bytesIn (drop (2 * i) l)) ≡ p
+  unfolding putOver bytesIn
   packet-end h = rw (drop-of-length-le l {i = 2 * i} h)

@@ -2,22 +2,17 @@
 use Prim.Native.Nat.{ℕ}
 use Prim.Native.String.{String}
 use mathlib.Core.Path.{_≡_, refl}
-use mathlib.Core.Bool.{Bool, true, false, _&&_}
+use mathlib.Core.Bool.{true, false}
 use mathlib.Core.List.{List, [], _∷_, _++_}
-use lib.Dec.{eqb}
 use lib.ListN.{replicate}
 use Rattle.octets.specs.Words.{bytesOf}
+use Rattle.octets.proofs.Samples.{Sample, sample, allRight}
 use Rattle.runner.specs.declared.Event.the-variants.{Idle, Raster, Exp, Abort}
 use Rattle.line.specs.Digits.{digitOf, valueOf, bytesIn, spell, decimal, shownOn, all, each}
 use Rattle.line.specs.Writing.{spaced, answerText, blockText, eventText, badText}
-use Rattle.line.specs.Reading.{isFigure, zeroLeads, numberOf, begins, isPacket, stepsOf, lineOf}
+use Rattle.line.specs.Reading.{isFigure, zeroLeads, numeralOf, begins, isPacket, stepsLine, lineOf}
 use Rattle.line.specs.declared.Line.{Line}
 use Rattle.line.specs.declared.Line.the-variants.{Packet, Steps, Bad}
-
--- what is found, and what is right
-record Sample : Type 0 where
-  found : List ℕ
-  right : List ℕ
 
 -- what a line says as a list of numbers: a packet with its bytes, steps with their number
 abbrev told : List ℕ → Line → List ℕ
@@ -26,7 +21,7 @@ told line (Steps n) = 1 ∷ n ∷ []
 told line Bad = 2 ∷ []
 
 abbrev line-is : List ℕ → List ℕ → Sample
-line-is line right = record { found = told line (lineOf line); right = right }
+line-is line right = sample (told line (lineOf line)) right
 
 abbrev packet : String → ℕ → List ℕ → Sample
 packet line n bytes = line-is (bytesOf line) (0 ∷ n ∷ bytes)
@@ -38,17 +33,7 @@ abbrev bad : String → Sample
 bad line = line-is (bytesOf line) (2 ∷ [])
 
 abbrev written : List ℕ → String → Sample
-written text right = record { found = text; right = bytesOf right }
-
-abbrev same : List ℕ → List ℕ → Bool
-same [] [] = true
-same [] (y ∷ ys) = false
-same (x ∷ xs) [] = false
-same (x ∷ xs) (y ∷ ys) = eqb x y && same xs ys
-
-abbrev all-right : List Sample → Bool
-all-right [] = true
-all-right (s ∷ ss) = same (s .found) (s .right) && all-right ss
+written text right = sample text (bytesOf right)
 
 abbrev samples : List Sample
 samples =
@@ -87,6 +72,6 @@ samples =
     ∷ written (bytesOf "PASS" ++ spaced 2 ++ bytesOf " ENDS" ++ spaced 289062331117568 ++ each spaced (0 ∷ 45 ∷ [])) "PASS 2 ENDS 289062331117568 0 45"
     ∷ []
 
-pub samples-right : all-right samples ≡ true
-unfolding lineOf isPacket stepsOf begins numberOf isFigure zeroLeads all valueOf bytesIn shownOn digitOf decimal spell each answerText blockText eventText
+pub samples-right : allRight samples ≡ true
+unfolding lineOf isPacket stepsLine begins numeralOf isFigure zeroLeads all valueOf bytesIn shownOn digitOf decimal spell each answerText blockText eventText
 samples-right = refl

@@ -7,44 +7,44 @@ use mathlib.Core.List.{List, [], _∷_, _++_, append-nil, append-assoc}
 use lib.ListN.{length, getD, set, drop, length-append, length-set, drop-of-length-le}
 use lib.Seq.{drop-cons, set-out}
 use Rattle.line.specs.Digits.{digitOf, hexOf, each}
-use Rattle.line.specs.Writing.{lastPlace, after, laid, Laid, spaced}
+use Rattle.line.specs.Writing.{lastPlace, placeAfter, putOver, Laid, spaced}
 
 -- ── one text after the other
-after-none : (at : ℕ) → after at 0 ≡ at
-unfolding after
+after-none : (at : ℕ) → placeAfter at 0 ≡ at
+unfolding placeAfter
 after-none at = omega arith
 
-after-one : (at n : ℕ) → after at (suc n) ≡ after (after at 1) n
-unfolding after
+after-one : (at n : ℕ) → placeAfter at (suc n) ≡ placeAfter (placeAfter at 1) n
+unfolding placeAfter
 after-one at n = omega arith
 
-pub next-place : (at : ℕ) → at < lastPlace → after at 1 ≡ at + 1
-unfolding after
+pub next-place : (at : ℕ) → at < lastPlace → placeAfter at 1 ≡ at + 1
+unfolding placeAfter
 next-place at h = omega arith
 
-after-after : (at m n : ℕ) → after (after at m) n ≡ after at (m + n)
-unfolding after
+after-after : (at m n : ℕ) → placeAfter (placeAfter at m) n ≡ placeAfter at (m + n)
+unfolding placeAfter
 after-after at m n = omega arith
 
 -- the place after two texts
-after-both : (p : ℕ) {q r : ℕ} (xs ys : List ℕ) → q ≡ after p (length xs) → r ≡ after q (length ys)
-    → r ≡ after p (length (xs ++ ys))
+after-both : (p : ℕ) {q r : ℕ} (xs ys : List ℕ) → q ≡ placeAfter p (length xs) → r ≡ placeAfter q (length ys)
+    → r ≡ placeAfter p (length (xs ++ ys))
 after-both p {q} {r} xs ys d e =
     e
-    ∙ ap (λ (n : ℕ). after n (length ys)) d
+    ∙ ap (λ (n : ℕ). placeAfter n (length ys)) d
     ∙ after-after p (length xs) (length ys)
-    ∙ ap (after p) (sym (length-append xs ys))
+    ∙ ap (placeAfter p) (sym (length-append xs ys))
 
-length-laid : (o : List ℕ) (at : ℕ) (xs : List ℕ) → length (laid o at xs) ≡ length o
-unfolding laid
+length-laid : (o : List ℕ) (at : ℕ) (xs : List ℕ) → length (putOver o at xs) ≡ length o
+unfolding putOver
 length-laid o at [] = refl
-length-laid o at (x ∷ xs) = length-laid (set o at x) (after at 1) xs ∙ length-set o at x
+length-laid o at (x ∷ xs) = length-laid (set o at x) (placeAfter at 1) xs ∙ length-set o at x
 
-laid-append : (o : List ℕ) (at : ℕ) (xs ys : List ℕ) → laid (laid o at xs) (after at (length xs)) ys ≡ laid o at (xs ++ ys)
-unfolding laid
-laid-append o at [] ys = ap (λ (p : ℕ). laid o p ys) (after-none at)
+laid-append : (o : List ℕ) (at : ℕ) (xs ys : List ℕ) → putOver (putOver o at xs) (placeAfter at (length xs)) ys ≡ putOver o at (xs ++ ys)
+unfolding putOver
+laid-append o at [] ys = ap (λ (p : ℕ). putOver o p ys) (after-none at)
 laid-append o at (x ∷ xs) ys =
-    ap (λ (p : ℕ). laid (laid (set o at x) (after at 1) xs) p ys) (after-one at (length xs)) ∙ laid-append (set o at x) (after at 1) xs ys
+    ap (λ (p : ℕ). putOver (putOver (set o at x) (placeAfter at 1) xs) p ys) (after-one at (length xs)) ∙ laid-append (set o at x) (placeAfter at 1) xs ys
 
 pub laid-length : {o o₁ : List ℕ} {p q : ℕ} {xs : List ℕ} → Laid o o₁ p q xs → length o₁ ≡ length o
 laid-length {o} {o₁} {p} {q} {xs} a = ap length (a .bytes) ∙ length-laid o p xs
@@ -54,24 +54,24 @@ pub laid-then : {o o₁ o₂ : List ℕ} {p q r : ℕ} {xs ys : List ℕ} → La
 laid-then {o} {o₁} {o₂} {p} {q} {r} {xs} {ys} a b =
     record {
       place = after-both p xs ys (a .place) (b .place);
-      bytes = b .bytes ∙ ap₂ (λ (l : List ℕ) (n : ℕ). laid l n ys) (a .bytes) (a .place) ∙ laid-append o p xs ys;
+      bytes = b .bytes ∙ ap₂ (λ (l : List ℕ) (n : ℕ). putOver l n ys) (a .bytes) (a .place) ∙ laid-append o p xs ys;
     }
 
 -- ── a byte, where the output has its place and where it has not
 module _ (o : List ℕ) (at b : ℕ) where
   pub byte-in : at < lastPlace → Laid o (set o at b) at (at + 1) (b ∷ [])
-  unfolding laid
+  unfolding putOver
   byte-in h = record { place = sym (next-place at h); bytes = refl }
 
-  byte-out : (next : ℕ) → length o ≤ at → next ≡ after at 1 → Laid o o at next (b ∷ [])
-  unfolding laid
+  byte-out : (next : ℕ) → length o ≤ at → next ≡ placeAfter at 1 → Laid o o at next (b ∷ [])
+  unfolding putOver
   byte-out next h e = record { place = e; bytes = sym (set-out o at b h) }
 
   pub byte-past : length o ≤ at → at < lastPlace → Laid o o at (at + 1) (b ∷ [])
   byte-past h l = byte-out (at + 1) h (sym (next-place at l))
 
   pub byte-last : length o ≤ at → at ≡ lastPlace → Laid o o at at (b ∷ [])
-  unfolding after
+  unfolding placeAfter
   byte-last h l = byte-out at h (omega arith)
 
 -- ── digits
@@ -89,8 +89,8 @@ octet-in o p b x y h d e =
 -- ── a list's texts
 -- laying xs over o at p comes to the same as laying ys over the output that the function was lent
 pub record Onward (o : List ℕ) (p : ℕ) (xs : List ℕ) (lent : List ℕ) (at : ℕ) (ys : List ℕ) : Type 0 where
-  pub place : after p (length xs) ≡ after at (length ys)
-  pub bytes : laid o p xs ≡ laid lent at ys
+  pub place : placeAfter p (length xs) ≡ placeAfter at (length ys)
+  pub bytes : putOver o p xs ≡ putOver lent at ys
   pub size : length o ≡ length lent
 
 pub set-off : (o : List ℕ) (at : ℕ) (ys : List ℕ) → Onward o at ys o at ys
@@ -107,12 +107,12 @@ module _ {o lent : List ℕ} {p at : ℕ} {ys : List ℕ} where
   onward {o₁} {q} {x} {xs} w a =
       record {
         place = after-both p x xs (a .place) refl ∙ w .place;
-        bytes = ap₂ (λ (l : List ℕ) (n : ℕ). laid l n xs) (a .bytes) (a .place) ∙ laid-append o p x xs ∙ w .bytes;
+        bytes = ap₂ (λ (l : List ℕ) (n : ℕ). putOver l n xs) (a .bytes) (a .place) ∙ laid-append o p x xs ∙ w .bytes;
         size = laid-length a ∙ w .size;
       }
 
   pub arrived : Onward o p [] lent at ys → Laid lent o at p ys
-  unfolding laid
+  unfolding putOver
   arrived w = record { place = sym (after-none p) ∙ w .place; bytes = w .bytes }
 
   module _ (text : ℕ → List ℕ) (l : List ℕ) (i : ℕ) where

@@ -7,7 +7,7 @@ use lib.ListN.{length, drop}
 use Rattle.octets.specs.Bytes.{byteAt}
 use Rattle.octets.specs.Words.{bytesOf}
 use Rattle.line.specs.Digits.{isHex, bytesIn, isDigit, shownOn, all}
-use Rattle.line.specs.Writing.{laid}
+use Rattle.line.specs.Writing.{putOver}
 use Rattle.line.specs.declared.Line.{Line}
 use Rattle.line.specs.declared.Line.the-variants.{Packet, Steps, Bad}
 use Rattle.line.specs.declared.Numeral.{Numeral}
@@ -23,8 +23,8 @@ unfoldable pub zeroLeads : List ℕ → Bool
 zeroLeads s = eqb (byteAt s 0) 48 && ltb 1 (length s)
 
 -- a number from 0 to 65535 with no leading zero
-unfoldable pub numberOf : List ℕ → Numeral
-numberOf s = cond (isFigure s && not (zeroLeads s) && leb (shownOn 0 s) 65535) (Value (shownOn 0 s)) Wrong
+unfoldable pub numeralOf : List ℕ → Numeral
+numeralOf s = cond (isFigure s && not (zeroLeads s) && leb (shownOn 0 s) 65535) (Value (shownOn 0 s)) Wrong
 
 -- ── what a line says
 -- a line starts with a word
@@ -42,13 +42,13 @@ abbrev pub stepsFrom : Numeral → Line
 stepsFrom (Value n) = cond (eqb n 0) Bad (Steps n)
 stepsFrom Wrong = Bad
 
-unfoldable pub stepsOf : List ℕ → Line
-stepsOf line = cond (begins (bytesOf "STEP ") line) (stepsFrom (numberOf (drop 5 line))) Bad
+unfoldable pub stepsLine : List ℕ → Line
+stepsLine line = cond (begins (bytesOf "STEP ") line) (stepsFrom (numeralOf (drop 5 line))) Bad
 
 -- "Other lines print `BAD`."
 unfoldable pub lineOf : List ℕ → Line
-lineOf line = cond (isPacket line) (Packet (length line / 2)) (stepsOf line)
+lineOf line = cond (isPacket line) (Packet (length line / 2)) (stepsLine line)
 
 -- what a lent packet holds after a line: its bytes from the start on, where it is one
 unfoldable pub packetAfter : List ℕ → List ℕ → List ℕ
-packetAfter line packet = cond (isPacket line) (laid packet 0 (bytesIn line)) packet
+packetAfter line packet = cond (isPacket line) (putOver packet 0 (bytesIn line)) packet

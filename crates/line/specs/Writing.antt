@@ -13,18 +13,18 @@ use Rattle.line.specs.Digits.{hexOf, decimal, each}
 abbrev pub lastPlace : ℕ
 lastPlace = 0xFFFFFFFFFFFFFFFF
 
-unfoldable pub after : ℕ → ℕ → ℕ
-after at n = at + min n (lastPlace - at)
+unfoldable pub placeAfter : ℕ → ℕ → ℕ
+placeAfter at n = at + min n (lastPlace - at)
 
 -- an output with a text laid over it from a place on; the bytes for which it has no place are lost
-unfoldable pub laid : List ℕ → ℕ → List ℕ → List ℕ
-laid o at [] = o
-laid o at (b ∷ bs) = laid (set o at b) (after at 1) bs
+unfoldable pub putOver : List ℕ → ℕ → List ℕ → List ℕ
+putOver o at [] = o
+putOver o at (b ∷ bs) = putOver (set o at b) (placeAfter at 1) bs
 
 -- an output before and after a text was laid over it, the text's place and the next place
 pub record Laid (old new : List ℕ) (at next : ℕ) (text : List ℕ) : Type 0 where
-  pub place : next ≡ after at (length text)
-  pub bytes : new ≡ laid old at text
+  pub place : next ≡ placeAfter at (length text)
+  pub bytes : new ≡ putOver old at text
 
 -- a number after a blank
 abbrev pub spaced : ℕ → List ℕ

@@ -9,8 +9,8 @@ ghost use mathlib.Core.List.{[], _∷_};
 ghost use Prim.Native.Nat.{_+_, _*_, _≤_, _<_};
 ghost use lib.ListN.{length, drop};
 ghost use Rattle.line.specs.Digits.{digitOf, valueOf, isHex, hexOf, bytesIn, decimal, all, each};
-ghost use Rattle.line.specs.Writing.{laid, Laid, spaced, wordLine, answerText, kindText, blockText, eventText, badText};
-ghost use Rattle.line.specs.Reading.{zeroLeads, numberOf, begins, isPacket, stepsOf, lineOf, packetAfter};
+ghost use Rattle.line.specs.Writing.{putOver, Laid, spaced, wordLine, answerText, kindText, blockText, eventText, badText};
+ghost use Rattle.line.specs.Reading.{zeroLeads, numeralOf, begins, isPacket, stepsLine, lineOf, packetAfter};
 use runner::Event;
 
 // The most hex digits that a packet's line has.
@@ -296,7 +296,7 @@ fn is_packet(line: &[u8]) -> bool
 // Reads a packet's line into its bytes.
 fn read_packet(line: &[u8], packet: &mut [u8; 140])
     requires { ⌜ isPacket (now line) ≡ true ⌝ }
-    ensures { λ _. ⌜ now (packet .exit) ≡ laid (now (packet .entry)) 0 (bytesIn (now (line .entry))) ⌝ }
+    ensures { λ _. ⌜ now (packet .exit) ≡ putOver (now (packet .entry)) 0 (bytesIn (now (line .entry))) ⌝ }
 {
     let n = line.len() / 2;
     let mut i = 0;
@@ -320,7 +320,7 @@ fn zero_leads(s: &[u8], from: usize) -> bool
 
 // The number from a place on: 0 to 65535, no sign, no leading zero.
 pub fn number(s: &[u8], from: usize) -> Numeral
-    ensures { λ r. ⌜ r ≡ numberOf (drop from (now (s .entry))) ⌝ }
+    ensures { λ r. ⌜ r ≡ numeralOf (drop from (now (s .entry))) ⌝ }
 {
     if s.len() <= from {
         return Numeral::Wrong;
@@ -366,7 +366,7 @@ fn begins(line: &[u8], word: &[u8]) -> bool
 
 // The steps that a line asks for: `STEP n`.
 fn steps(line: &[u8]) -> Line
-    ensures { λ r. ⌜ r ≡ stepsOf (now (line .entry)) ⌝ }
+    ensures { λ r. ⌜ r ≡ stepsLine (now (line .entry)) ⌝ }
 {
     if !begins(line, b"STEP ") {
         return Line::Bad;

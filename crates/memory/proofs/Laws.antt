@@ -3,32 +3,20 @@ use Prim.Native.Nat.{ℕ, _+_, _*_, _-_, _≤_, _<_}
 use native.Mathlib.Nat.{add-sub-cancel-left}
 use native.Mathlib.Omega.{arith}
 use mathlib.Core.Path.{_≡_, refl, sym, ap, _∙_}
-use mathlib.Core.Bool.{Bool, true, false, cond, not, _&&_, _||_, true≢false, false≢true}
+use mathlib.Core.Bool.{Bool, true, false, not, _&&_, _||_}
 use mathlib.Core.List.{List, [], _++_, append-nil}
 use mathlib.Core.Logic.{_⊎_, ⊎-elim}
 use lib.Dec.{ltb, leb, eqb}
 use lib.ListN.{length, getD, take, drop, length-append, length-take, length-drop, drop-of-length-le, List·getD-append}
 use lib.Seq.{take-length, take-append-seam, drop-drop, length-take-le, getD-take, getD-drop, getD-append-add}
 use borrow.Author.Tests.{lt-leb, le-leb, eq-eqb, ne-eqb, leb-true, leb-false, eqb-true, eqb-false, not-false}
+use Rattle.octets.proofs.Bools.{and-both, or-neither, choice}
+use Rattle.memory.specs.declared.Format.{Format}
 use Rattle.memory.specs.declared.Addressed.{Addressed}
 use Rattle.memory.specs.declared.Addressed.the-variants.{Known, Nowhere}
 use Rattle.memory.specs.declared.Range.{Range}
 use Rattle.memory.specs.declared.Range.the-variants.{Sequences, LineLists, Wrong}
-use Rattle.memory.specs.Memory.{entryOf, listOf, tablesWrong, within, rangeOf, rangeFrom, rangeAt, partOf, windowCode, windowPart, written}
-
--- ── tests
-both : (a b : Bool) → (a && b) ≡ true → (a ≡ true) × (b ≡ true)
-both true b e = (refl, e)
-both false b e = absurd (false≢true e)
-
-neither : (a b : Bool) → (a || b) ≡ false → (a ≡ false) × (b ≡ false)
-neither true b e = absurd (true≢false e)
-neither false b e = (refl, e)
-
--- what holds of both outcomes of a test holds of the choice
-choice : {A : Type 0} (P : A → Type 0) (t : Bool) (a b : A) → (t ≡ true → P a) → (t ≡ false → P b) → P (cond t a b)
-choice P true a b f g = f refl
-choice P false a b f g = g refl
+use Rattle.memory.specs.Memory.{entryOf, tablesWrong, within, rangeOf, rangeFrom, rangeAt, partOf, windowCode, windowPart, written}
 
 -- ── ranges
 module _ (first size a len : ℕ) where
@@ -49,13 +37,12 @@ module _ (first size a len : ℕ) where
 
   inside : within first size a len ≡ true → a - first + len ≤ size
   inside h =
-      let (p, q) = both (leb first a) (leb (a + len) (first + size)) h in
-      let l = leb-true first a p in
-      let u = leb-true (a + len) (first + size) q in omega arith
+      let (p, q) = and-both (leb first a) (leb (a + len) (first + size)) h in
+      omega (arith, leb-true first a p, leb-true (a + len) (first + size) q)
 
 -- an address that passed the test, whatever the table's end, has an offset
 pub has-offset : (first a : ℕ) (ends : Bool) → (leb first a && ends) ≡ true → first ≤ a
-has-offset first a ends h = leb-true first a (both (leb first a) ends h .0)
+has-offset first a ends h = leb-true first a (and-both (leb first a) ends h .0)
 
 -- a range is not empty and lies wholly in its table
 abbrev pub Fits : ℕ → Range → Type 0
@@ -67,7 +54,7 @@ of-fits : (a len : ℕ) → Fits len (rangeOf a len)
 unfolding rangeOf
 of-fits a len =
     choice (Fits len) (eqb len 0 || ltb 16384 len) Wrong _ (λ _. tt)
-    (λ n. let some = eqb-false len 0 (neither (eqb len 0) (ltb 16384 len) n .0) in
+    (λ n. let some = eqb-false len 0 (or-neither (eqb len 0) (ltb 16384 len) n .0) in
     choice (Fits len) (within 0x070000 16384 a len) (Sequences (a - 0x070000)) _
     (λ h. (inside 0x070000 16384 a len h, omega arith))
     (λ _. choice (Fits len) (within 0x074000 7872 a len) (LineLists (a - 0x074000)) Wrong
@@ -85,7 +72,7 @@ range-fits a len =
 pub sizes : (s l : List ℕ) → tablesWrong s l ≡ false → (length s ≡ 16384) × (length l ≡ 7872)
 unfolding tablesWrong
 sizes s l h =
-    let (p, q) = neither (not (eqb (length s) 16384)) (not (eqb (length l) 7872)) h in
+    let (p, q) = or-neither (not (eqb (length s) 16384)) (not (eqb (length l) 7872)) h in
     (eqb-true (length s) 16384 (not-false (eqb (length s) 16384) p), eqb-true (length l) 7872 (not-false (eqb (length l) 7872) q))
 
 pub right-sizes : (s l : List ℕ) → length s ≡ 16384 → length l ≡ 7872 → tablesWrong s l ≡ false
@@ -103,17 +90,8 @@ module _ (s l : List ℕ) (a len k : ℕ) (told : k ≡ windowCode s l a len) wh
   hidden n = simp (← told, ne-eqb k 0 n)
 
 -- ── entries
-part-length : (s : List ℕ) (at n : ℕ) → at + n ≤ length s → length (take n (drop at s)) ≡ n
-part-length s at n h = simp (length-take, length-drop) (omega arith)
-
-pub entry-length : (s : List ℕ) (n : ℕ) → length s ≡ 16384 → n < 128 → length (entryOf s n) ≡ 128
-entry-length s n l h = part-length s (n * 128) 128 (omega arith)
-
-pub list-length : (l : List ℕ) (n : ℕ) → length l ≡ 7872 → n < 48 → length (listOf l n) ≡ 164
-list-length l n k h = part-length l (n * 164) 164 (omega arith)
-
-pub entry-short : (s : List ℕ) (n : ℕ) → length (entryOf s n) ≤ 128
-entry-short s n = simp length-take (omega arith)
+pub entry-short : (F : Format) (s : List ℕ) (n : ℕ) → length (entryOf F s n) ≤ F .size
+entry-short F s n = simp length-take (omega arith)
 
 -- ── writes
 -- the byte at a place of two lists, one after the other, past the first

@@ -1,10 +1,11 @@
 -- Bytes and memory: the tables' places, addresses and ranges, the part that a range shows, and what a write leaves.
-use Prim.Native.Nat.{ℕ, _+_, _*_, _-_}
+use Prim.Native.Nat.{ℕ, _+_, _*_, _-_, _≤_}
 use mathlib.Core.Bool.{Bool, true, false, cond, not, _&&_, _||_}
 use mathlib.Core.List.{List, [], _∷_, _++_}
 use lib.Dec.{ltb, leb, eqb}
 use lib.ListN.{length, take, drop}
 use Rattle.octets.specs.Rows.{Row, row, firstCode}
+use Rattle.memory.specs.declared.Format.{Format}
 use Rattle.memory.specs.declared.Place.{Place}
 use Rattle.memory.specs.declared.Placed.{Placed}
 use Rattle.memory.specs.declared.Placed.the-variants.{At, Outside}
@@ -14,10 +15,20 @@ use Rattle.memory.specs.declared.Addressed.the-variants.{Known, Nowhere}
 use Rattle.memory.specs.declared.Range.{Range}
 use Rattle.memory.specs.declared.Range.the-variants.{Sequences, LineLists, Wrong}
 
--- "Sequence table: 128 entries of 128 bytes .. Line lists: 48 entries of 164 bytes"
-abbrev pub entryOf : List ℕ → ℕ → List ℕ
-entryOf seqs n = take 128 (drop (n * 128) seqs)
+-- "Sequence table: 128 entries of 128 bytes": an entry's size and the last number
+abbrev pub flight : Format
+flight = record { size = 128; last = 127 }
 
+-- a format that there is room for: a place is a byte's number, and there are at most 128 sequences
+pub record Fair (F : Format) : Type 0 where
+  pub size : F .size ≤ 256
+  pub last : F .last ≤ 127
+
+-- sequence n's own bytes
+abbrev pub entryOf : Format → List ℕ → ℕ → List ℕ
+entryOf F seqs n = take (F .size) (drop (n * F .size) seqs)
+
+-- "Line lists: 48 entries of 164 bytes"
 abbrev pub listOf : List ℕ → ℕ → List ℕ
 listOf lists n = take 164 (drop (n * 164) lists)
 
@@ -29,8 +40,8 @@ tablesWrong seqs lists = not (eqb (length seqs) 16384) || not (eqb (length lists
 abbrev pub placeAt : ℕ → Place
 placeAt n = record { 0 = n }
 
-abbrev pub placeOf : ℕ → Placed
-placeOf n = cond (ltb n 128) (At (placeAt n)) Outside
+abbrev pub placeOf : Format → ℕ → Placed
+placeOf F n = cond (ltb n (F .size)) (At (placeAt n)) Outside
 
 -- "addresses 0x070000 to 0x073FFF .. 0x074000 to 0x075EBF"
 abbrev pub addressOf : ℕ → Addressed

@@ -4,7 +4,7 @@ ghost use mathlib.Core.Path.{_≡_};
 ghost use mathlib.Core.List.{_++_};
 ghost use Prim.Native.Nat.{_≤_};
 ghost use lib.ListN.{length, drop};
-ghost use Rattle.memory.specs.Memory.{placeOf, addressOf, rangeOf, rangeFrom, rangeAt, within, isWrong, partOf, tablesWrong, windowCode, windowPart, written, seqsWritten, listsWritten, entryOf, listOf};
+ghost use Rattle.memory.specs.Memory.{flight, placeOf, addressOf, rangeOf, rangeFrom, rangeAt, within, isWrong, partOf, tablesWrong, windowCode, windowPart, written, seqsWritten, listsWritten, entryOf, listOf};
 
 // The sequence table: 128 entries of 128 bytes, from 0x070000.
 pub const SEQUENCES: usize = 128;
@@ -12,8 +12,6 @@ pub const SEQUENCES: usize = 128;
 pub const LAST_SEQUENCE: u8 = (SEQUENCES - 1) as u8;
 
 pub const SEQUENCE_SIZE: usize = 128;
-
-pub const LAST_PLACE: u8 = (SEQUENCE_SIZE - 1) as u8;
 
 pub const SEQUENCE_TABLE: usize = 16384;
 
@@ -36,6 +34,24 @@ const PAST: u32 = 0x075EC0;
 // The longest part that the desk may ask for, and the least output that is lent.
 pub const LONGEST: usize = SEQUENCE_TABLE;
 
+// The format of the sequence table: the size of an entry and the last sequence's number.
+pub struct Format {
+    pub size: u16,
+    pub last: u8,
+}
+
+impl Format {
+    // The flight unit's: 128 entries of 128 bytes.
+    pub fn flight() -> Format
+        ensures { λ r. ⌜ r ≡ flight ⌝ }
+    {
+        Format {
+            size: SEQUENCE_SIZE as u16,
+            last: LAST_SEQUENCE,
+        }
+    }
+}
+
 // A place in a sequence. Only `Place::of` makes one.
 pub struct Place(u8);
 
@@ -47,10 +63,10 @@ pub enum Placed {
 
 impl Place {
     // The place of this number, where a sequence has it.
-    pub fn of(number: u8) -> Placed
-        ensures { λ r. ⌜ r ≡ placeOf number ⌝ }
+    pub fn of(format: Format, number: u8) -> Placed
+        ensures { λ r. ⌜ r ≡ placeOf format number ⌝ }
     {
-        if number <= LAST_PLACE {
+        if (number as u16) < format.size {
             Placed::At(Place(number))
         } else {
             Placed::Outside
@@ -250,10 +266,11 @@ pub fn write_range(seqs: &mut [u8], lists: &mut [u8], range: Range, src: &[u8])
 }
 
 // Sequence n's own bytes in the table.
-pub fn entry(seqs: &[u8], n: u8) -> &[u8]
-    ensures { λ r. ⌜ now r ≡ entryOf (now (seqs .entry)) n ⌝ }
+pub fn entry(format: Format, seqs: &[u8], n: u8) -> &[u8]
+    ensures { λ r. ⌜ now r ≡ entryOf format (now (seqs .entry)) n ⌝ }
 {
-    octets::part(seqs, n as usize * SEQUENCE_SIZE, SEQUENCE_SIZE)
+    let size = format.size as usize;
+    octets::part(seqs, n as usize * size, size)
 }
 
 // Line list n's own bytes in the table.

@@ -4,16 +4,17 @@ use Prim.Native.Nat.{ℕ, zero, suc, _+_, _-_, _≤_, _<_}
 use native.Mathlib.Nat.{add-sub-cancel-left}
 use native.Mathlib.Numerals.{add-one}
 use native.Mathlib.Omega.{arith}
-use mathlib.Core.Path.{_≡_, refl, sym, ap, ap₂, _∙_, subst}
-use mathlib.Core.Bool.{Bool, true, false, cond, not, _&&_, true≢false}
+use mathlib.Core.Path.{_≡_, refl, sym, ap, ap₂, _∙_}
+use mathlib.Core.Bool.{Bool, true, false, cond, not}
 use mathlib.Core.List.{List, [], _∷_, _++_}
-use mathlib.Core.Logic.{_⊎_, inl, inr, _↔_}
+use mathlib.Core.Logic.{inl, inr, _↔_}
 use lib.Dec.{T, ltb, eqb}
 use lib.ListN.{length, getD, take, drop, length-drop, drop-of-length-le, List·getD-eq-default}
 use lib.Seq.{drop-cons, take-all}
 use borrow.Author.Tests.{ltb-true, ne-eqb}
 use Rattle.octets.specs.Bytes.{byteAt, wordAt, tripleAt, xorOn}
 use Rattle.octets.specs.Rows.{Row, row, firstCode, NoneHolds, FirstBears, coded}
+use Rattle.octets.proofs.Bools.{and-T}
 
 -- ── past the end
 pub byte-past : (s : List ℕ) (at : ℕ) → length s ≤ at → byteAt s at ≡ 0
@@ -57,10 +58,6 @@ xor-append x [] b = refl
 xor-append x (y ∷ a) b = xor-append (lib.Bits.bitXor x y) a b
 
 -- ── ordered rows
-pub and-true : (a b : Bool) → T (a && b) → (a ≡ true) × T b
-and-true true b p = (refl, p)
-and-true false b p = absurd p
-
 module _ (c : ℕ) (rs : List Row) where
   row-passed : (t : Bool) → 0 < c → cond t c (firstCode rs) ≡ 0 → (t ≡ false) × (firstCode rs ≡ 0)
   row-passed true h e = absurd (omega arith)
@@ -74,7 +71,7 @@ module _ (c : ℕ) (rs : List Row) where
 pub none-holds : (rs : List Row) → T (coded rs) → firstCode rs ≡ 0 → NoneHolds rs
 none-holds [] p e = tt
 none-holds (r ∷ rs) p e =
-    let (h, q) = and-true (ltb 0 (r .code)) (coded rs) p in
+    let (h, q) = and-T (ltb 0 (r .code)) (coded rs) p in
     let (f, g) = row-passed (r .code) rs (r .holds) (ltb-true 0 (r .code) h) e in
     (f, none-holds rs q g)
 
@@ -98,6 +95,11 @@ bears-first (r ∷ rs) k (inr (h, f)) = rw h (bears-first rs k f)
 pub code-exactly : (rs : List Row) (k : ℕ) → 0 < k → (firstCode rs ≡ k) ↔ FirstBears k rs
 code-exactly rs k h = (first-bears rs k h, bears-first rs k)
 
+-- where no row of two tables one after the other holds, none of either does
+pub none-split : (xs ys : List Row) → NoneHolds (xs ++ ys) → NoneHolds xs × NoneHolds ys
+none-split [] ys h = (tt, h)
+none-split (r ∷ rs) ys (e, h) = let (a, b) = none-split rs ys h in ((e, a), b)
+
 -- the first code of two tables, one after the other: that of the first where a row of it holds, else that of the second
 row-joined : (c n m k : ℕ) (t : Bool) → 0 < c → cond (not (eqb n 0)) n k ≡ m → cond (not (eqb (cond t c n) 0)) (cond t c n) k ≡ cond t c m
 row-joined c n m k true h e = rw (ne-eqb c 0 (λ z. omega arith))
@@ -106,7 +108,7 @@ row-joined c n m k false h e = e
 joined : (xs ys : List Row) → T (coded xs) → cond (not (eqb (firstCode xs) 0)) (firstCode xs) (firstCode ys) ≡ firstCode (xs ++ ys)
 joined [] ys p = refl
 joined (r ∷ rs) ys p =
-    let (h, q) = and-true (ltb 0 (r .code)) (coded rs) p in
+    let (h, q) = and-T (ltb 0 (r .code)) (coded rs) p in
     row-joined (r .code) (firstCode rs) (firstCode (rs ++ ys)) (firstCode ys) (r .holds) (ltb-true 0 (r .code) h) (joined rs ys q)
 
 pub first-joined : (xs ys : List Row) → T (coded xs) → (c d r : ℕ) → r ≡ cond (not (eqb c 0)) c d → c ≡ firstCode xs → d ≡ firstCode ys → r ≡ firstCode (xs ++ ys)

@@ -5,7 +5,7 @@ use native.Mathlib.Omega.{arith}
 use native.Mathlib.Numerals.{add-one}
 use native.Mathlib.Nat.{add-zero, div-div-eq-div-mul, div-add-mod', mod-eq-of-lt}
 use mathlib.Core.Path.{_≡_, refl, sym, ap, ap₂, subst, _∙_}
-use mathlib.Core.Bool.{Bool, true, false, not, _||_, true≢false}
+use mathlib.Core.Bool.{Bool, true, false, not}
 use mathlib.Core.List.{List, [], _∷_, _++_, append-assoc}
 use lib.Dec.{T, eqb, eqb→eq}
 use lib.ListN.{length, getD, drop, length-append, drop-of-length-le}
@@ -14,15 +14,11 @@ use borrow.Author.Tests.{ltb-false, eqb-true, not-false}
 use Rattle.octets.specs.Bytes.{byteAt, wordAt, fourAt, halves}
 use Rattle.octets.specs.Layout.{isSet, flag, Cell, Field, field, spelled, readAt, Fits, unlike, wrongAt, laid, reads, wrong, AllFit, tiles}
 use Rattle.octets.specs.Layout.Cell.{Byte, Word, Four, Flag, Halves, Fixed}
-use Rattle.octets.proofs.Laws.{and-true}
+use Rattle.octets.proofs.Bools.{and-T, or-neither}
 
 -- every element is a byte
 abbrev pub Octets : List ℕ → Type 0
 Octets s = (i : ℕ) → getD s i 0 < 256
-
-neither : (a b : Bool) → (a || b) ≡ false → (a ≡ false) × (b ≡ false)
-neither true b e = absurd (true≢false e)
-neither false b e = (refl, e)
 
 -- ── bytes out of a cell that was read
 -- n bytes from a place on
@@ -46,7 +42,7 @@ flag-byte (suc (suc n)) h = absurd (omega arith)
 alike : (bs : List ℕ) (at : ℕ) (s : List ℕ) → unlike bs at s ≡ false → bs ≡ bytesAt s at (length bs)
 alike [] at s e = refl
 alike (b ∷ bs) at s e =
-    let (x, y) = neither (not (eqb (byteAt s at) b)) (unlike bs (at + 1) s) e in
+    let (x, y) = or-neither (not (eqb (byteAt s at) b)) (unlike bs (at + 1) s) e in
     ap₂ (λ (n : ℕ) (l : List ℕ). n ∷ l) (sym (eqb-true (byteAt s at) b (not-false (eqb (byteAt s at) b) x))) (alike bs (at + 1) s y)
 
 spells-read : (s : List ℕ) → Octets s → (c : Cell) (at : ℕ) → wrongAt c at s ≡ false → spelled (readAt c at s) ≡ bytesAt s at (length (spelled c))
@@ -74,7 +70,7 @@ spells-read s o (Fixed bs) at e = alike bs at s e
 -- what the test tells of a table's first field
 first : (f : Field) (fs : List Field) (at n : ℕ) → T (tiles at (f ∷ fs) n) → (f .at ≡ at) × T (tiles (at + length (spelled (f .cell))) fs n)
 first f fs at n t =
-    let (e, rest) = and-true (eqb (f .at) at) (tiles (at + length (spelled (f .cell))) fs n) t in
+    let (e, rest) = and-T (eqb (f .at) at) (tiles (at + length (spelled (f .cell))) fs n) t in
     (eqb-true (f .at) at e, rest)
 
 tiles-le : (fs : List Field) (at n : ℕ) → T (tiles at fs n) → at ≤ n
@@ -87,7 +83,7 @@ laid-from (f ∷ fs) s at o t e =
     let c = f .cell in
     let size = length (spelled c) in
     let (here, rest) = first f fs at (length s) t in
-    let (w, ws) = neither (wrongAt c (f .at) s) (wrong fs s) e in
+    let (w, ws) = or-neither (wrongAt c (f .at) s) (wrong fs s) e in
     ap (λ (l : List ℕ). spelled (readAt c (f .at) s) ++ l) (laid-from fs s (at + size) o rest ws)
     ∙ ap (λ (l : List ℕ). l ++ drop (at + size) s) (spells-read s o c (f .at) w)
     ∙ ap (λ (i : ℕ). bytesAt s i size ++ drop (at + size) s) here

@@ -8,9 +8,10 @@ use mathlib.Core.List.{List, [], _∷_}
 use mathlib.Core.Logic.{_⊎_, inl, inr}
 use borrow.Author.Tests.{lt-leb, ne-eqb}
 use Rattle.octets.specs.Rows.{Row, firstCode}
+use Rattle.octets.proofs.Bools.{and-both}
 use Rattle.sequence.specs.Starts.{among}
+use Rattle.memory.specs.declared.Format.{Format}
 use Rattle.sequence.specs.Env.{envOf}
-use Rattle.sequence.proofs.Laws.{and-both}
 use Rattle.runner.specs.declared.Event.the-variants.{Idle}
 use Rattle.runner.specs.declared.Stepped.{Stepped}
 use Rattle.runner.specs.Step.{to}
@@ -18,17 +19,17 @@ use Rattle.runner.proofs.Laws.{step-idle}
 use Rattle.unit.specs.declared.Unit.{Unit as ControlUnit}
 use Rattle.unit.specs.declared.Outcome.the-variants.{Denied, Saw}
 use Rattle.unit.specs.declared.UnitStep.{UnitStep}
-use Rattle.unit.specs.State.{withLedger, failed}
-use Rattle.unit.specs.declared.Kind.{Kind}
-use Rattle.unit.specs.declared.Kind.the-variants.{Status, Dump, Allow, Mode, Clear, Select, Uplink, Foreign, Unheard}
-use Rattle.unit.specs.Packet.{kindOf, ownRows, packetRows, codeOf}
+use Rattle.unit.specs.State.{withLedger, arrived, failed}
+use Rattle.unit.specs.declared.Telecommand.{Telecommand}
+use Rattle.unit.specs.declared.Telecommand.the-variants.{Status, Dump, Allow, Mode, Clear, Select, Uplink, Foreign, Unheard}
+use Rattle.unit.specs.Packet.{telecommandOf, ownRows, packetRows, codeOf}
 use Rattle.unit.specs.Answer.{refusedUnit, unitAfter, replyOf, answerOf}
-use Rattle.unit.specs.Step.{taken}
+use Rattle.unit.specs.Step.{withStep}
 use Rattle.unit.proofs.Laws.{sixteen-on}
 use Rattle.unit.proofs.Laws.{refused-keeps as kept}
 use Rattle.promises.specs.Library.{ours}
 use Rattle.promises.specs.Runs.{idle}
-use Rattle.promises.specs.Sent.{Sent, code, after, bc1, TablesKept, NoAnswer}
+use Rattle.promises.specs.Sent.{Sent, code, unitLeft, bc1, TablesKept, NoAnswer}
 use Rattle.promises.specs.Demand1.{answers, NoOtherCode, Refused, RefusedKeeps, Unchanged, SixteenKeeps, SeventeenKeeps, DeniedKeeps, IdleKeeps}
 use Rattle.promises.proofs.Run.Events.{outcome-shown}
 use Rattle.promises.proofs.Packets.Exactly.{step-case}
@@ -49,84 +50,84 @@ first-coded (r ∷ rs) h = let (a, b) = and-both (among (r .code) answers) (code
     go true a b = a
     go false a b = b
 
-own-coded : (k : Kind) (u : ControlUnit) (p : List ℕ) → coded (ownRows k u p) ≡ true
+own-coded : (F : Format) (k : Telecommand) (u : ControlUnit) (p : List ℕ) → coded (ownRows F k u p) ≡ true
 unfolding ownRows among
-own-coded Status u p = refl
-own-coded Dump u p = refl
-own-coded Allow u p = refl
-own-coded Mode u p = refl
-own-coded Clear u p = refl
-own-coded Select u p = refl
-own-coded Uplink u p = refl
-own-coded Foreign u p = refl
-own-coded Unheard u p = refl
+own-coded F Status u p = refl
+own-coded F Dump u p = refl
+own-coded F Allow u p = refl
+own-coded F Mode u p = refl
+own-coded F Clear u p = refl
+own-coded F Select u p = refl
+own-coded F Uplink u p = refl
+own-coded F Foreign u p = refl
+own-coded F Unheard u p = refl
 
-pub no-other-code : NoOtherCode ours
+pub no-other-code : (F : Format) → NoOtherCode F ours
 unfolding answerOf codeOf packetRows among
-no-other-code s = first-coded (packetRows (s .unit) (s .seqs) (s .lists) (s .out) (s .bytes)) (own-coded (kindOf (bc1 s)) (s .unit) (s .bytes))
+no-other-code F s = first-coded (packetRows F (s .unit) (s .seqs) (s .lists) (s .out) (s .bytes)) (own-coded F (telecommandOf (bc1 s)) (s .unit) (s .bytes))
 
 -- ── a packet that is not obeyed
-module _ (s : Sent) (refused : code ours s ≡ 0 → ⊥) where
+module _ {F : Format} (s : Sent F) (refused : code ours s ≡ 0 → ⊥) where
   keeps-tables : TablesKept ours s
   unfolding answerOf
   keeps-tables =
-      let k = kept (s .unit) (s .seqs) (s .lists) (s .out) (s .bytes) (s .time) refused in
+      let k = kept F (s .unit) (s .seqs) (s .lists) (s .out) (s .bytes) (s .time) refused in
       record { sequences = k .sequences; lineLists = k .linelists }
 
   says-nothing : NoAnswer ours s
   unfolding answerOf replyOf
   says-nothing =
-      let c = codeOf (s .unit) (s .seqs) (s .lists) (s .out) (s .bytes) in
+      let c = codeOf F (s .unit) (s .seqs) (s .lists) (s .out) (s .bytes) in
       record {
         size = simp (ne-eqb c 0 refused);
-        output = kept (s .unit) (s .seqs) (s .lists) (s .out) (s .bytes) (s .time) refused .output;
+        output = kept F (s .unit) (s .seqs) (s .lists) (s .out) (s .bytes) (s .time) refused .output;
       }
 
-module _ (s : Sent) (some : 0 < code ours s) (below : code ours s < 16) where
-  counted-failed : after ours s ≡ withLedger (failed (s .bytes) (code ours s) (s .unit .ledger)) (s .unit)
+module _ {F : Format} (s : Sent F) (some : 0 < code ours s) (below : code ours s < 16) where
+  counted-failed : unitLeft ours s ≡ withLedger (failed (bc1 s) (code ours s) (arrived (s .bytes) (s .unit .ledger))) (s .unit)
   unfolding answerOf unitAfter refusedUnit
   counted-failed =
-      let c = codeOf (s .unit) (s .seqs) (s .lists) (s .out) (s .bytes) in
+      let c = codeOf F (s .unit) (s .seqs) (s .lists) (s .out) (s .bytes) in
       simp (ne-eqb c 0 (λ z. omega arith), lt-leb 16 c below)
 
-pub refused-keeps : RefusedKeeps ours
-refused-keeps s some below = (
+pub refused-keeps : (F : Format) → RefusedKeeps F ours
+refused-keeps F s some below = (
   subst (Refused (s .bytes) (code ours s) (s .unit)) (sym (counted-failed s some below))
       (record { received = refl; failed = refl; number = refl; code = refl; log = refl; control = refl; watch = refl; runner = refl }),
   keeps-tables s (λ z. omega arith),
   says-nothing s (λ z. omega arith),
 )
 
-nothing-changed : (s : Sent) → 16 ≤ code ours s → Unchanged ours s
+nothing-changed : {F : Format} (s : Sent F) → 16 ≤ code ours s → Unchanged ours s
 unfolding answerOf
-nothing-changed s h =
-    (sixteen-on (s .unit) (s .seqs) (s .lists) (s .out) (s .bytes) h, keeps-tables s (λ z. omega arith), says-nothing s (λ z. omega arith))
+nothing-changed {F} s h =
+    (sixteen-on F (s .unit) (s .seqs) (s .lists) (s .out) (s .bytes) h, keeps-tables s (λ z. omega arith), says-nothing s (λ z. omega arith))
 
-pub sixteen-keeps : SixteenKeeps ours
-sixteen-keeps s e = nothing-changed s (omega arith)
+pub sixteen-keeps : (F : Format) → SixteenKeeps F ours
+sixteen-keeps F s e = nothing-changed s (omega arith)
 
-pub seventeen-keeps : SeventeenKeeps ours
-seventeen-keeps s e = nothing-changed s (omega arith)
+pub seventeen-keeps : (F : Format) → SeventeenKeeps F ours
+seventeen-keeps F s e = nothing-changed s (omega arith)
 
 -- ── steps
-pub denied-keeps : DeniedKeeps ours
-unfolding taken
-denied-keeps u seqs lists c =
-    step-case (λ (x : UnitStep). x .outcome ≡ Denied c → ((c ≡ 16) ⊎ (c ≡ 17)) × (x .unit ≡ u)) u seqs lists
+pub denied-keeps : (F : Format) → DeniedKeeps F ours
+unfolding withStep
+denied-keeps F u seqs lists c =
+    step-case F (λ (x : UnitStep). x .outcome ≡ Denied c → ((c ≡ 16) ⊎ (c ≡ 17)) × (x .unit ≡ u)) u seqs lists
     (λ e. let z : _≡_ {A = ℕ} 0 1 = cc in absurd (omega arith))
     (λ e. (inl (cc), refl))
     (λ e. (inr (cc), refl))
 
 -- an idle step taken into the unit is the unit
-taken-idle : (u : ControlUnit) (r : Stepped) → r ≡ to Idle (u .runner) → taken u r .unit ≡ u
-unfolding taken
-taken-idle u r e = ap (λ (x : Stepped). taken u x .unit) e
+with-step-idle : (u : ControlUnit) (r : Stepped) → r ≡ to Idle (u .runner) → withStep u r .unit ≡ u
+unfolding withStep
+with-step-idle u r e = ap (λ (x : Stepped). withStep u x .unit) e
 
-pub idle-keeps : IdleKeeps ours
-unfolding taken
-idle-keeps u seqs lists h =
-    let E = envOf lists in
-    step-case (λ (x : UnitStep). x .outcome ≡ Saw Idle → x .unit ≡ u) u seqs lists
-    (λ e. taken-idle u _ (sym (step-idle E seqs (u .runner) (idle-stops E seqs (u .runner) (cc)))))
+pub idle-keeps : (F : Format) → IdleKeeps F ours
+unfolding withStep
+idle-keeps F u seqs lists h =
+    let E = envOf F lists in
+    step-case F (λ (x : UnitStep). x .outcome ≡ Saw Idle → x .unit ≡ u) u seqs lists
+    (λ e. with-step-idle u _ (sym (step-idle E seqs (u .runner) (idle-stops E seqs (u .runner) (cc)))))
     (λ e. refl)
-    (λ e. refl) (outcome-shown (ours .steps u seqs lists .outcome) idle h refl)
+    (λ e. refl) (outcome-shown (ours .steps F u seqs lists .outcome) idle h refl)

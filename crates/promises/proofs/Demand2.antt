@@ -4,6 +4,8 @@ use Prim.Native.Nat.{ℕ}
 use native.Mathlib.Omega.{arith}
 use mathlib.Core.Path.{_≡_, refl, sym, subst}
 use Rattle.octets.proofs.Laws.{code-exactly as first-exactly}
+use Rattle.memory.specs.declared.Format.{Format}
+use Rattle.sequence.specs.Text.{fault}
 use Rattle.sequence.specs.Env.{envOf}
 use Rattle.runner.specs.declared.Event.the-variants.{Abort}
 use Rattle.runner.specs.declared.Stepped.{Stepped}
@@ -14,7 +16,7 @@ use Rattle.unit.specs.declared.UnitStep.{UnitStep}
 use Rattle.unit.specs.State.{powerOn}
 use Rattle.unit.specs.Packet.{packetRows, codeOf}
 use Rattle.unit.specs.Answer.{answerOf}
-use Rattle.unit.specs.Step.{taken}
+use Rattle.unit.specs.Step.{withStep}
 use Rattle.unit.proofs.Laws.{accepted}
 use Rattle.promises.specs.Library.{ours}
 use Rattle.promises.specs.Runs.{aborts}
@@ -29,30 +31,30 @@ pub use Rattle.promises.proofs.Packets.Transfers.{effect-07, effect-E7}
 pub use Rattle.promises.proofs.Packets.Exactly.{step-accepted-exactly, step-code-exactly, step-takes, step-keeps, check-exactly, window-code-exactly, window-exactly, window-shows}
 pub use Rattle.promises.proofs.Run.Faults.{idle-exactly, abort-exactly}
 
-pub accepted-exactly : AcceptedExactly ours
+pub accepted-exactly : (F : Format) → AcceptedExactly F ours
 unfolding answerOf
-accepted-exactly s = accepted (s .unit) (s .seqs) (s .lists) (s .out) (s .bytes)
+accepted-exactly F s = accepted F (s .unit) (s .seqs) (s .lists) (s .out) (s .bytes)
 
-pub code-exactly : CodeExactly ours
+pub code-exactly : (F : Format) → CodeExactly F ours
 unfolding answerOf codeOf
-code-exactly s = first-exactly (packetRows (s .unit) (s .seqs) (s .lists) (s .out) (s .bytes))
+code-exactly F s = first-exactly (packetRows F (s .unit) (s .seqs) (s .lists) (s .out) (s .bytes))
 
 pub powers-on : PowersOn ours
 unfolding powerOn
 powers-on = refl
 
 -- an abort taken into the unit
-taken-abort : (u : ControlUnit) (r : Stepped) (c n p : ℕ) → n ≡ u .runner .sequence → r ≡ aborted c p (u .runner) → Aborted c n p u (taken u r .unit)
-unfolding taken aborted
-taken-abort u r c n p e f =
-    subst (λ (x : Stepped). Aborted c n p u (taken u x .unit)) (sym f)
+with-step-abort : (u : ControlUnit) (r : Stepped) (c n p : ℕ) → n ≡ u .runner .sequence → r ≡ aborted (fault c p) (u .runner) → Aborted c n p u (withStep u r .unit)
+unfolding withStep aborted
+with-step-abort u r c n p e f =
+    subst (λ (x : Stepped). Aborted c n p u (withStep u x .unit)) (sym f)
     (record { sequence = e; runner = refl; abort = refl; exposures = refl; list = refl; ledger = refl; control = refl })
 
-pub abort-keeps : AbortKeeps ours
-unfolding taken
-abort-keeps u seqs lists c n p h =
-    let E = envOf lists in
-    step-case (λ (x : UnitStep). x .outcome ≡ Saw (Abort c n p) → Aborted c n p u (x .unit)) u seqs lists
-    (λ e. let f = abort-faults E seqs (u .runner) c n p (cc) in taken-abort u _ c n p (f .sequence) (f .whole))
+pub abort-keeps : (F : Format) → AbortKeeps F ours
+unfolding withStep
+abort-keeps F u seqs lists c n p h =
+    let E = envOf F lists in
+    step-case F (λ (x : UnitStep). x .outcome ≡ Saw (Abort c n p) → Aborted c n p u (x .unit)) u seqs lists
+    (λ e. let f = abort-faults E seqs (u .runner) c n p (cc) in with-step-abort u _ c n p (f .sequence) (f .whole))
     (λ e. let z : _≡_ {A = ℕ} 0 1 = cc in absurd (omega arith))
-    (λ e. let z : _≡_ {A = ℕ} 0 1 = cc in absurd (omega arith)) (outcome-shown (ours .steps u seqs lists .outcome) (aborts c n p) h refl)
+    (λ e. let z : _≡_ {A = ℕ} 0 1 = cc in absurd (omega arith)) (outcome-shown (ours .steps F u seqs lists .outcome) (aborts c n p) h refl)

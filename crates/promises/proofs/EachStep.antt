@@ -8,6 +8,7 @@ use lib.Dec.{ltb, eqb}
 use borrow.Author.Tests.{lt-ltb, le-ltb, eq-eqb, ltb-true, eqb-true}
 use Rattle.octets.specs.Rows.{Row, NoneHolds}
 use Rattle.octets.proofs.Laws.{no-code}
+use Rattle.octets.proofs.Bools.{and-both}
 use Rattle.memory.specs.declared.Place.{Place}
 use Rattle.sequence.specs.declared.Command.{Command}
 use Rattle.sequence.specs.declared.Command.the-variants.{RunRaster, Expose, LoopBack, CallSequence, Terminate, Delay}
@@ -15,7 +16,7 @@ use Rattle.sequence.specs.declared.RasterWords.{RasterWords}
 use Rattle.sequence.specs.Text.{headerRows, headerOf}
 use Rattle.sequence.specs.Raster.{rasterAt}
 use Rattle.sequence.specs.Env.{Env}
-use Rattle.sequence.proofs.Laws.{and-both, Bytes, command-bytes}
+use Rattle.sequence.proofs.Laws.{Bytes, command-bytes}
 use Rattle.runner.specs.declared.Runner.{Runner}
 use Rattle.runner.specs.declared.Opened.{Opened}
 use Rattle.runner.specs.declared.Opened.the-variants.{Open}
@@ -56,19 +57,19 @@ module _ (E : Env) (seqs : List ℕ) (s : Runner) where
   text = here E seqs s
 
   abbrev Does : Act → Type 0
-  Does a = stepOf E seqs s ≡ act (E .last) text s a
+  Does a = stepOf E seqs s ≡ act (E .format) text s a
 
-  step-at : (k : Command) (a : Act) → Obeys E seqs s k → judged E text (s .place) (openOf s) k ≡ a → Does a
+  step-at : (k : Command) (a : Act) → Obeys E seqs s k → judged (E .cards) text (s .place) (openOf (E .format) s) k ≡ a → Does a
   unfolding stepOf stepIn judge
   step-at k a o j =
       simp (o .running, o .entered)
-      (ap (λ (x : Command). act (E .last) text s (judged E text (s .place) (openOf s) x)) (o .command) ∙ ap (act (E .last) text s) j)
+      (ap (λ (x : Command). act (E .format) text s (judged (E .cards) text (s .place) (openOf (E .format) s) x)) (o .command) ∙ ap (act (E .format) text s) j)
 
   at-raster : Obeys E seqs s RunRaster → Does Opens
-  at-raster o = step-at RunRaster Opens o (run-raster-exactly E text (s .place) (openOf s) .obeyed .1 (o .accepted))
+  at-raster o = step-at RunRaster Opens o (run-raster-exactly (E .cards) text (s .place) (openOf (E .format) s) .obeyed .1 (o .accepted))
 
   at-loop : (t : ℕ) → Obeys E seqs s (LoopBack t) → Does (Loops t)
-  at-loop t o = step-at (LoopBack t) (Loops t) o (loop-back-exactly E text (s .place) t (openOf s) .obeyed .1 (o .accepted))
+  at-loop t o = step-at (LoopBack t) (Loops t) o (loop-back-exactly (E .cards) text (s .place) t (openOf (E .format) s) .obeyed .1 (o .accepted))
 
   at-delay : (time : ℕ) → Obeys E seqs s (Delay time) → Does Waits
   unfolding judged
@@ -77,23 +78,23 @@ module _ (E : Env) (seqs : List ℕ) (s : Runner) where
   at-call : (n : ℕ) → Obeys E seqs s (CallSequence n) → Does (Calls n)
   at-call n o =
       step-at (CallSequence n) (Calls n) o
-      (call-exactly E text (s .place) n (openOf s) .obeyed .1 (front-rows (closeRows text (s .place) (openOf s)) (callRows E s n) (o .accepted)))
+      (call-exactly (E .cards) text (s .place) n (openOf (E .format) s) .obeyed .1 (front-rows (closeRows text (s .place) (openOf (E .format) s)) (callRows (E .format) s n) (o .accepted)))
 
   at-terminate : Obeys E seqs s Terminate → Does Ends
-  at-terminate o = step-at Terminate Ends o (terminate-exactly E text (s .place) (openOf s) .obeyed .1 (o .accepted))
+  at-terminate o = step-at Terminate Ends o (terminate-exactly (E .cards) text (s .place) (openOf (E .format) s) .obeyed .1 (o .accepted))
 
-  module _ (time : ℕ) (r : Place) (c : ℕ) (o : Obeys E seqs s (Expose time)) (held : openOf s ≡ Open r c) where
-    none : NoneHolds (exposeRows text time (Open r c) ++ advanceRows text s (Open r c))
+  module _ (time : ℕ) (r : Place) (c n : ℕ) (o : Obeys E seqs s (Expose time)) (held : openOf (E .format) s ≡ Open r c n) where
+    none : NoneHolds (exposeRows text time (Open r c n) ++ advanceRows text s (Open r c n))
     none = subst (λ (x : Opened). NoneHolds (exposeRows text time x ++ advanceRows text s x)) held (o .accepted)
 
     at-expose : Does (Exposes r)
     at-expose =
         step-at (Expose time) (Exposes r) o
-        (ap (λ (x : Opened). judged E text (s .place) x (Expose time)) held
-        ∙ expose-exactly E text (s .place) time r c .obeyed .1 (front-rows (exposeRows text time (Open r c)) (advanceRows text s (Open r c)) none))
+        (ap (λ (x : Opened). judged (E .cards) text (s .place) x (Expose time)) held
+        ∙ expose-exactly (E .cards) text (s .place) time r c n .obeyed .1 (front-rows (exposeRows text time (Open r c n)) (advanceRows text s (Open r c n)) none))
 
     in-reach : (advances (rasterAt text (r .0)) s && ltb 2400 (s .mirror + rasterAt text (r .0) .step)) ≡ false
-    in-reach = back-rows (exposeRows text time (Open r c)) (advanceRows text s (Open r c)) none .0
+    in-reach = back-rows (exposeRows text time (Open r c n)) (advanceRows text s (Open r c n)) none .0
 
 -- ── the commands
 pub raster-step : RasterStep ours
@@ -103,42 +104,42 @@ raster-step E seqs s o =
     let p = at-raster E seqs s o in
     (takes (Raster (raster .id) (raster .initial) (raster .list)) p (λ count. refl), λ w. ap (λ (x : Stepped). watched (x .event) w .list) p)
 
-advances-told : (raster : RasterWords) (s : Runner) → advances raster s ≡ true → (1 < s .passes) × (s .count + 1 ≡ setOf raster)
+advances-told : (raster : RasterWords) (s : Runner) → advances raster s ≡ true → (1 < s .raster .passes) × (s .raster .count + 1 ≡ setOf raster)
 unfolding advances
 advances-told raster s e =
-    let (p, q) = and-both (ltb 1 (s .passes)) (eqb (s .count + 1) (setOf raster)) e in
-    (ltb-true 1 (s .passes) p, eqb-true (s .count + 1) (setOf raster) q)
+    let (p, q) = and-both (ltb 1 (s .raster .passes)) (eqb (s .raster .count + 1) (setOf raster)) e in
+    (ltb-true 1 (s .raster .passes) p, eqb-true (s .raster .count + 1) (setOf raster) q)
 
-advances-test : (raster : RasterWords) (s : Runner) → 1 < s .passes → s .count + 1 ≡ setOf raster → advances raster s ≡ true
+advances-test : (raster : RasterWords) (s : Runner) → 1 < s .raster .passes → s .raster .count + 1 ≡ setOf raster → advances raster s ≡ true
 unfolding advances
-advances-test raster s h e = simp (lt-ltb 1 (s .passes) h, eq-eqb (s .count + 1) (setOf raster) e)
+advances-test raster s h e = simp (lt-ltb 1 (s .raster .passes) h, eq-eqb (s .raster .count + 1) (setOf raster) e)
 
 pub expose-advances : ExposeAdvances ours
 unfolding act exposed
-expose-advances E seqs s time r c o held h e =
+expose-advances E seqs s time r c n o held h e =
     let a = advances-test (rasterAt (here E seqs s) (r .0)) s h e in
-    let past = simp a at (in-reach E seqs s time r c o held) in
-    takes (Exp (s .mirror)) (at-expose E seqs s time r c o held ∙ simp (a, past)) (λ count. refl)
+    let past = simp a at (in-reach E seqs s time r c n o held) in
+    takes (Exp (s .mirror)) (at-expose E seqs s time r c n o held ∙ simp (a, past)) (λ count. refl)
 
 pub expose-stays : ExposeStays ours
 unfolding act exposed
-expose-stays E seqs s time r c o held f =
+expose-stays E seqs s time r c n o held f =
     let raster = rasterAt (here E seqs s) (r .0) in
     let stays : (b : Bool) → advances raster s ≡ b → b ≡ false =
     λ b e. elim b as (λ x. advances raster s ≡ x → x ≡ false) [ true ↦ λ e. let (p, q) = advances-told raster s e in absurd (f p q) | false ↦ λ e. refl ] e in
-    takes (Exp (s .mirror)) (at-expose E seqs s time r c o held ∙ simp (stays (advances raster s) refl)) (λ count. refl)
+    takes (Exp (s .mirror)) (at-expose E seqs s time r c n o held ∙ simp (stays (advances raster s) refl)) (λ count. refl)
 
 pub loop-jumps : LoopJumps ours
 unfolding act looped
-loop-jumps E seqs s t o h = takes (Loop t) (at-loop E seqs s t o ∙ simp (lt-ltb 1 (s .passes) h)) (λ count. refl)
+loop-jumps E seqs s t o h = takes (Loop t) (at-loop E seqs s t o ∙ simp (lt-ltb 1 (s .raster .passes) h)) (λ count. refl)
 
 pub loop-repeats : LoopRepeats ours
 unfolding act looped
-loop-repeats E seqs s t o h k = takes Next (at-loop E seqs s t o ∙ simp (le-ltb 1 (s .passes) h, lt-ltb 1 (s .repeats) k)) (λ count. refl)
+loop-repeats E seqs s t o h k = takes Next (at-loop E seqs s t o ∙ simp (le-ltb 1 (s .raster .passes) h, lt-ltb 1 (s .raster .repeats) k)) (λ count. refl)
 
 pub loop-closes : LoopCloses ours
 unfolding act looped
-loop-closes E seqs s t o h k = takes Done (at-loop E seqs s t o ∙ simp (le-ltb 1 (s .passes) h, le-ltb 1 (s .repeats) k)) (λ count. refl)
+loop-closes E seqs s t o h k = takes Done (at-loop E seqs s t o ∙ simp (le-ltb 1 (s .raster .passes) h, le-ltb 1 (s .raster .repeats) k)) (λ count. refl)
 
 pub delay-step : DelayStep ours
 unfolding act delayed
@@ -157,7 +158,7 @@ terminate-repeats E seqs s o h = takes Next (at-terminate E seqs s o ∙ simp (l
 pub call-made : CallMade ours
 unfolding act called
 call-made E seqs s n o h =
-    let low = simp (le-ltb 1 (s .rounds) h) at (back-rows (closeRows (here E seqs s) (s .place) (openOf s)) (callRows E s n) (o .accepted) .0) in
+    let low = simp (le-ltb 1 (s .rounds) h) at (back-rows (closeRows (here E seqs s) (s .place) (openOf (E .format) s)) (callRows (E .format) s n) (o .accepted) .0) in
     takes (Call n) (at-call E seqs s n o ∙ simp (le-ltb 1 (s .rounds) h, low)) (λ count. refl)
 
 pub terminate-ends : TerminateEnds ours

@@ -8,7 +8,8 @@
 --   Sentences      from EachCheck: no other check fits its sentences
 --   Demand3        from Chain, Range and Packets: the unit keeps what the check tells; EveryLap, for good
 --   Decided        from Demand3: the check can tell nothing else
---   Refuted        from Decided, and by computing over SampleTables: the wrong libraries that document 01 names keep no such demand
+--   Refuted        from Decided, and by computing over the sample tables (sequence/proofs): the wrong libraries that document 01 names keep no such demand
+--   Flight         the flight unit's format is one of those that Demand3, EveryLap and Decided speak of
 --   Samples        by computing
 --   OneAnswer      from the contracts: one answer for each call; TheCode: the demands, for the code
 pub mod Text
@@ -24,7 +25,7 @@ pub mod Sentences
 pub mod Demand3
 pub mod EveryLap
 pub mod Decided
-pub mod SampleTables
+pub mod Flight
 pub mod Samples
 pub mod Refuted
 pub mod OneAnswer

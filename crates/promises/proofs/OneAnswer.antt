@@ -10,6 +10,7 @@ use Rattle.promises.specs.OneAnswer.{
   OneOctetsRefuse,
   OneOctetsPair,
   OneOctetsEither,
+  OneMemoryFormatFlight,
   OneMemoryPlaceOf,
   OneMemoryPlaceNumber,
   OneMemoryAddressOf,
@@ -39,7 +40,7 @@ use Rattle.promises.specs.OneAnswer.{
   OneSequenceCommandAt,
   OneSequenceRasterAt,
   OneSequenceFlagsGood,
-  OneSequenceListTest,
+  OneSequenceListCard,
   OneSequencePast,
   OneSequenceTargetGood,
   OneRunnerJudge,
@@ -48,7 +49,7 @@ use Rattle.promises.specs.OneAnswer.{
   OneSurveyCheckOne,
   OneUnitUnitPowerOn,
   OneUnitUnitOutOfRange,
-  OneUnitKindOf,
+  OneUnitTelecommandOf,
   OneUnitLentWrong,
   OneUnitUnitPacket,
   OneUnitWindowCode,
@@ -102,6 +103,9 @@ pub one-result-octets-either : OneOctetsEither
 one-result-octets-either κs a r r′ e e′ p q = p ∙ sym q
 
 -- ── memory
+pub one-result-memory-Format-flight : OneMemoryFormatFlight
+one-result-memory-Format-flight κs a r r′ e e′ p q = p ∙ sym q
+
 pub one-result-memory-Place-of : OneMemoryPlaceOf
 one-result-memory-Place-of κs a r r′ e e′ p q = p ∙ sym q
 
@@ -182,7 +186,7 @@ pub one-result-sequence-header-of : OneSequenceHeaderOf
 one-result-sequence-header-of κs a r r′ e e′ p q = p ∙ sym q
 
 pub one-result-sequence-command-at : OneSequenceCommandAt
-one-result-sequence-command-at κs a r r′ e e′ p q = p ∙ sym q
+one-result-sequence-command-at κs a r r′ e e′ p q = p .0 ∙ sym (q .0)
 
 pub one-result-sequence-raster-at : OneSequenceRasterAt
 one-result-sequence-raster-at κs a r r′ e e′ p q = p ∙ sym q
@@ -196,8 +200,8 @@ one-result-sequence-step-at κs a r r′ e e′ p q = p ∙ sym q
 pub one-result-sequence-flags-good : OneSequenceFlagsGood
 one-result-sequence-flags-good κs a r r′ e e′ p q = p ∙ sym q
 
-pub one-result-sequence-list-test : OneSequenceListTest
-one-result-sequence-list-test κs a r r′ e e′ p q = p ∙ sym q
+pub one-result-sequence-list-card : OneSequenceListCard
+one-result-sequence-list-card κs a r r′ e e′ p q = p ∙ sym q
 
 pub one-result-sequence-past : OneSequencePast
 one-result-sequence-past κs a r r′ e e′ p q = p ∙ sym q
@@ -207,7 +211,7 @@ one-result-sequence-target-good κs a r r′ e e′ p q = p ∙ sym q
 
 -- ── runner
 pub one-result-runner-judge : OneRunnerJudge
-one-result-runner-judge κs a r r′ e e′ p q = p ∙ sym q
+one-result-runner-judge κs a r r′ e e′ p q = p .0 ∙ sym (q .0)
 
 pub one-result-runner-Runner-step : OneRunnerRunnerStep
 one-result-runner-Runner-step κs a r r′ e e′ p q = p ∙ sym q
@@ -226,8 +230,8 @@ one-result-unit-Unit-power-on κs a r r′ e e′ p q = p ∙ sym q
 pub one-result-unit-Unit-out-of-range : OneUnitUnitOutOfRange
 one-result-unit-Unit-out-of-range κs a r r′ e e′ p q = p ∙ sym q
 
-pub one-result-unit-kind-of : OneUnitKindOf
-one-result-unit-kind-of κs a r r′ e e′ p q = p ∙ sym q
+pub one-result-unit-telecommand-of : OneUnitTelecommandOf
+one-result-unit-telecommand-of κs a r r′ e e′ p q = p ∙ sym q
 
 pub one-result-unit-lent-wrong : OneUnitLentWrong
 one-result-unit-lent-wrong κs a r r′ e e′ p q = p ∙ sym q

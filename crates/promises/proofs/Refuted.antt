@@ -9,37 +9,39 @@ use mathlib.Core.Logic.{inl, inr}
 use lib.Dec.{eqb}
 use lib.ListN.{length, getD}
 use Rattle.octets.specs.Bytes.{byteAt, tripleAt, xorOn}
-use Rattle.memory.specs.Memory.{tablesWrong, rangeOf, rangeAt}
-use Rattle.sequence.specs.Text.{limit, lengthGood, xorGood, headerRows, headerOf, sizeOf, decoded, noneThere, commandAt, sizeAt}
+use Rattle.memory.specs.declared.Format.{Format}
+use Rattle.memory.specs.Memory.{flight, tablesWrong, rangeOf, rangeAt}
+use Rattle.sequence.specs.Text.{fault, limit, lengthGood, xorGood, headerRows, headerOf, sizeOf, decoded, noneThere, commandAt, sizeAt}
 use Rattle.sequence.specs.Starts.{starts, startsOf, among, exposesBetween, firstExposure, targetGood}
-use Rattle.sequence.specs.Raster.{rasterAt, flagsGood}
-use Rattle.sequence.specs.LineList.{listGood, listTest}
+use Rattle.sequence.specs.Raster.{rasterAt, flagsGood, somePast}
+use Rattle.sequence.specs.LineList.{listCard}
 use Rattle.sequence.specs.Env.{envOf}
+use Rattle.sequence.proofs.SampleTables.{seqs, lists, ends, calls, lineList, fields, raster}
 use Rattle.runner.specs.declared.Runner.{Runner}
 use Rattle.runner.specs.declared.Stepped.{Stepped}
 use Rattle.runner.specs.declared.Event.{Event}
 use Rattle.runner.specs.Events.{Shown, shows}
 use Rattle.runner.specs.Judge.{pathRows, rasterRows, runRows, exposeRows, loopRows, closeRows, judged, judge}
 use Rattle.runner.specs.Step.{aborted, entered, begun, advances, exposed, looped, called, ended, act, stepIn, stepOf}
-use Rattle.survey.specs.declared.Ending.the-variants.{Finishes, Faulty}
-use Rattle.survey.specs.Walk.{between, walked, walk, checkOne}
+use Rattle.survey.specs.declared.Ending.the-variants.{Finishes, Faults}
+use Rattle.survey.specs.Walk.{walked, walk, checkOne}
 use Rattle.survey.specs.Chain.{Told, told, onward, follow, chainOf, checkRows, checkOf}
 use Rattle.unit.specs.declared.Unit.{Unit as ControlUnit}
 use Rattle.unit.specs.declared.Outcome.{Outcome}
 use Rattle.unit.specs.declared.Outcome.the-variants.{Denied, Saw}
 use Rattle.unit.specs.State.{powerOn, runsWrong, rangeTests, outOfRange, moded, selected}
-use Rattle.unit.specs.Packet.{kindOf, ownRows, lentWrong, packetRows, codeOf}
-use Rattle.unit.specs.Answer.{obeyedUnit, refusedUnit, obeyedSeqs, obeyedLists, unitAfter, answerOf, seqsAfter, listsAfter}
-use Rattle.unit.specs.Step.{stepRows, taken, unitStep}
+use Rattle.unit.specs.Packet.{telecommandOf, ownRows, lentWrong, packetRows, codeOf}
+use Rattle.unit.specs.Answer.{effect, obeyedUnit, refusedUnit, unitAfter, answerOf, seqsAfter, listsAfter}
+use Rattle.unit.specs.Step.{stepRows, withStep, unitStep}
 use Rattle.promises.specs.Library.{Library, ours}
 use Rattle.promises.specs.Sent.{Sent}
 use Rattle.promises.specs.Runs.{isA, ShownAs, Showing, idle, enters}
 use Rattle.promises.specs.Demand2.{Lent, InRange, InSequences, StepTakes}
 use Rattle.promises.specs.EachStep.{EnterStep}
-use Rattle.promises.specs.Demand3.{World, world, step, packet, after, outcomes, Reached, powered, acted, modeOf, selecting, starting, callingBack, exposedAt, Works, FirstThen, GoesOn, EndsOrReturns, KeepsPassed, Demand3}
+use Rattle.promises.specs.Demand3.{World, world, step, packet, after, outcomes, Reached, powered, acted, modeOf, selecting, starting, callingBack, exposedPositions, Works, FirstThen, GoesOn, EndsOrReturns, KeepsPassed, Demand3}
 use Rattle.promises.specs.Refuted.{RefusingFails, WritingNothingFails, IdlingFails, UnitIdlingFails, FinishingAtFirstFails, UnitFinishingFails, FinishingAtCallFails, withCheck, withSteps, PassingAllFails, FaultingAllFails, InventedStepsFail, InventedExposuresFail, IdleUnitFails, refusesAll, writesNothing, alwaysIdle, finishesAtFirst, atCall, finishesAtCall, passesAll, faultsAll, inventsSteps, inventsExposures, mirrorEachExposure, repeatAtLast, faultyRasterPassed, uplinkWhileRunning, Refuted, MisreadRefuted}
 use Rattle.promises.proofs.Run.Events.{fault-so, passed-so}
-use Rattle.promises.proofs.SampleTables.{seqs, lists, ends, calls, lineList, fields, raster}
+use Rattle.promises.proofs.Chain.Chains.{fair-flight}
 use Rattle.promises.proofs.Packets.Actions.{steps, stepped-on}
 use Rattle.promises.proofs.Packets.Needs.{obeyed-exactly}
 use Rattle.promises.proofs.Decided.{check-decided}
@@ -60,13 +62,13 @@ abbrev repeats : List ℕ
 repeats = raster 0x22 (fields 0x00 0x64 2 1 2 0 0) 1 0xC1
 
 -- ── demand 2, packets: one to the unit at power-on, over zeros
-abbrev sent : List ℕ → Sent
+abbrev sent : List ℕ → Sent flight
 sent bytes = record { unit = powerOn; time = 0; seqs = seqs []; lists = lists []; out = seqs []; bytes = bytes }
 
 lent : (bytes : List ℕ) → Lent (sent bytes)
 lent bytes = record { sequences = refl; lineLists = refl; output = omega arith }
 
-in-range : InRange powerOn
+in-range : InRange flight powerOn
 unfolding powerOn
 in-range =
     record {
@@ -85,7 +87,7 @@ in-range =
     }
 
 pub refusing-fails : RefusingFails
-unfolding tablesWrong powerOn runsWrong rangeTests outOfRange kindOf ownRows lentWrong packetRows
+unfolding tablesWrong powerOn runsWrong rangeTests outOfRange telecommandOf ownRows lentWrong packetRows
 refusing-fails L x =
     let p : List ℕ = 0x01 ∷ [] in
     let some = x (sent p) in (
@@ -94,7 +96,7 @@ refusing-fails L x =
     )
 
 pub writing-nothing-fails : WritingNothingFails
-unfolding powerOn kindOf
+unfolding powerOn telecommandOf
 writing-nothing-fails L x f g =
     let p : List ℕ = 0xE7 ∷ 0x07 ∷ 0x00 ∷ 0x00 ∷ 0x01 ∷ 0xAA ∷ [] in
     let s = sent p in
@@ -107,12 +109,12 @@ writing-nothing-fails L x f g =
 -- ── demand 2, each step: a runner in sequence 0
 abbrev runner : ℕ → Bool → Runner
 runner place entering =
-    record { sequence = 0; place = place; running = true; entering = entering; raster = 255; count = 0; passes = 0; repeats = 0; rounds = 1; mirror = 0 }
+    record { sequence = 0; place = place; running = true; entering = entering; raster = record { place = 255; count = 0; passes = 0; repeats = 0 }; rounds = 1; mirror = 0 }
 
 pub idling-fails : IdlingFails
 unfolding headerRows lengthGood xorGood limit xorOn
 idling-fails L x =
-    let E = envOf (lists []) in
+    let E = envOf flight (lists []) in
     let i = x E (seqs terminates) (runner 0 true) in (
       λ f. true≢false (f E (seqs terminates) (runner 0 true) .0 i),
       λ f.
@@ -123,7 +125,7 @@ idling-fails L x =
 pub finishing-at-first-fails : FinishingAtFirstFails
 unfolding headerRows lengthGood xorGood limit xorOn
 finishing-at-first-fails L x f =
-    let E = envOf (lists []) in
+    let E = envOf flight (lists []) in
     let e = f E (seqs terminates) (runner 0 true) refl refl (refl, (refl, (refl, tt))) in
     true≢false (sym (ap (λ (r : Runner). r .running) (e .leaves)) ∙ x E (seqs terminates) (runner 0 true) refl refl)
 
@@ -138,16 +140,16 @@ unit =
     }
 
 -- it enters, and runs on
-unit-enters : (L : Library) → StepTakes L → EnterStep L
-    → Showing (L .steps unit (seqs terminates) (lists []) .outcome) (enters 0) × (L .steps unit (seqs terminates) (lists []) .unit .runner .running ≡ true)
+unit-enters : (L : Library) → StepTakes flight L → EnterStep L
+    → Showing (L .steps flight unit (seqs terminates) (lists []) .outcome) (enters 0) × (L .steps flight unit (seqs terminates) (lists []) .unit .runner .running ≡ true)
 unfolding tablesWrong headerRows lengthGood xorGood limit xorOn stepRows runsWrong rangeTests outOfRange
 unit-enters L takes entering =
-    let e = entering (envOf (lists [])) (seqs terminates) (runner 0 true) refl refl (refl, (refl, (refl, tt))) in
+    let e = entering (envOf flight (lists [])) (seqs terminates) (runner 0 true) refl refl (refl, (refl, (refl, tt))) in
     let (sees, keeps, _) = takes unit (seqs terminates) (lists []) (refl, (refl, tt)) in
     (subst (λ (o : Outcome). Showing o (enters 0)) (sym sees) (e .shows), ap (λ (r : Runner). r .running) (keeps ∙ e .leaves))
 
 pub unit-idling-fails : UnitIdlingFails
-unit-idling-fails L x takes entering = not-both (L .steps unit (seqs terminates) (lists []) .outcome) (x unit (seqs terminates) (lists [])) (unit-enters L takes entering .0)
+unit-idling-fails L x takes entering = not-both (L .steps flight unit (seqs terminates) (lists []) .outcome) (x unit (seqs terminates) (lists [])) (unit-enters L takes entering .0)
   where
     not-both : (o : Outcome) → Showing o idle → Showing o (enters 0) → ⊥
     not-both (Denied code) i e = i
@@ -159,30 +161,30 @@ unit-finishing-fails L x takes enters = true≢false (sym (unit-enters L takes e
 pub finishing-at-call-fails : FinishingAtCallFails
 unfolding commandAt sizeOf decoded noneThere limit lengthGood sizeAt closeRows judged judge called act stepIn stepOf
 finishing-at-call-fails L x f =
-    let E = envOf (lists []) in
+    let E = envOf flight (lists []) in
     let e = f E (seqs callsItself) (runner 4 false) 0 (record { running = refl; entered = refl; command = refl; accepted = (refl, (refl, (refl, tt))) }) (omega arith) in
     true≢false (sym (ap (λ (r : Runner). r .running) (e .leaves)) ∙ x E (seqs callsItself) (runner 4 false) 0 (λ count. refl))
 
 -- ── demand 3: a unit in MANUAL over tables that begin with these bytes, and then with sequence 0 selected and started
 module _ (L : Library) where
-  abbrev sending : List ℕ → World → World
+  abbrev sending : List ℕ → World flight → World flight
   sending bytes w = after L (packet (seqs []) 0 bytes) w
 
-  abbrev manual : List ℕ → List ℕ → World
+  abbrev manual : List ℕ → List ℕ → World flight
   manual sequence list = sending callingBack (sending (0x20 ∷ []) (world (L .powersOn) (seqs sequence) (lists list)))
 
-  abbrev auto : List ℕ → List ℕ → World
+  abbrev auto : List ℕ → List ℕ → World flight
   auto sequence list = sending starting (sending (selecting 0) (manual sequence list))
 
   -- what the check tells of it
   abbrev tells : List ℕ → List ℕ → Told
-  tells sequence list = L .checks (manual sequence list .seqs) (manual sequence list .lists) 0
+  tells sequence list = L .checks flight (manual sequence list .seqs) (manual sequence list .lists) 0
 
   in-manual : (sequence list : List ℕ) → length (seqs sequence) ≡ 16384 → length (lists list) ≡ 7872 → Reached L (manual sequence list)
   in-manual sequence list e e′ = acted (packet (seqs []) 0 callingBack) (acted (packet (seqs []) 0 (0x20 ∷ [])) (powered (seqs sequence) (lists list) e e′))
 
   -- the demand, asked of what it passes
-  kept : Demand3 L → (sequence list : List ℕ) → length (seqs sequence) ≡ 16384 → length (lists list) ≡ 7872 → modeOf (manual sequence list) ≡ 2
+  kept : Demand3 flight L → (sequence list : List ℕ) → length (seqs sequence) ≡ 16384 → length (lists list) ≡ 7872 → modeOf (manual sequence list) ≡ 2
       → KeepsPassed L (tells sequence list) (auto sequence list)
   kept d sequence list e e′ m =
       let (_, _, _, p, _) = d (manual sequence list) (in-manual sequence list e e′) m 0 (omega arith) (seqs []) (seqs []) (omega arith) (omega arith) 0 0 in p
@@ -192,28 +194,28 @@ record Computed (sequence : List ℕ) (t : Told) : Type 0 where
   mode : modeOf (manual ours sequence []) ≡ 2
   tells-so : tells ours sequence [] ≡ t
 
-computed : Computed [] (told (0 ∷ []) (Faulty 2 0 0) 0 0) × Computed terminates (told (0 ∷ []) Finishes 2 0)
-unfolding xorOn tablesWrong limit lengthGood xorGood headerRows headerOf sizeOf decoded noneThere commandAt sizeAt closeRows judged judge walked walk checkOne onward follow chainOf among checkRows checkOf powerOn runsWrong rangeTests outOfRange moded selected kindOf ownRows lentWrong packetRows codeOf obeyedUnit obeyedSeqs obeyedLists unitAfter answerOf seqsAfter listsAfter
+computed : Computed [] (told (0 ∷ []) (Faults 0 (fault 2 0)) 0 0) × Computed terminates (told (0 ∷ []) Finishes 2 0)
+unfolding xorOn tablesWrong limit lengthGood xorGood headerRows headerOf sizeOf decoded noneThere commandAt sizeAt closeRows judged judge walked walk checkOne onward follow chainOf among checkRows checkOf powerOn runsWrong rangeTests outOfRange moded selected telecommandOf ownRows lentWrong packetRows codeOf effect obeyedUnit unitAfter answerOf seqsAfter listsAfter
 computed = (record { mode = refl; tells-so = refl }, record { mode = refl; tells-so = refl })
 
 -- a check that keeps the demand tells the same of them
-module _ (f : List ℕ → List ℕ → ℕ → Told) (d : Demand3 (withCheck f)) where
+module _ (f : Format → List ℕ → List ℕ → ℕ → Told) (d : Demand3 flight (withCheck f)) where
   abbrev its : List ℕ → Told
-  its sequence = f (manual ours sequence [] .seqs) (manual ours sequence [] .lists) 0
+  its sequence = f flight (manual ours sequence [] .seqs) (manual ours sequence [] .lists) 0
 
-  at-zeros : its [] ≡ told (0 ∷ []) (Faulty 2 0 0) 0 0
-  at-zeros = check-decided f d (manual ours [] []) (in-manual ours [] [] refl refl) (computed .0 .mode) 0 (omega arith) ∙ computed .0 .tells-so
+  at-zeros : its [] ≡ told (0 ∷ []) (Faults 0 (fault 2 0)) 0 0
+  at-zeros = check-decided fair-flight (omega arith) f d (manual ours [] []) (in-manual ours [] [] refl refl) (computed .0 .mode) 0 (omega arith) ∙ computed .0 .tells-so
 
   at-ends : its terminates ≡ tells ours terminates []
-  at-ends = check-decided f d (manual ours terminates []) (in-manual ours terminates [] refl refl) (computed .1 .mode) 0 (omega arith)
+  at-ends = check-decided fair-flight (omega arith) f d (manual ours terminates []) (in-manual ours terminates [] refl refl) (computed .1 .mode) 0 (omega arith)
 
 pub passing-all-fails : PassingAllFails
-passing-all-fails f x d = passed-so (Faulty 2 0 0) (subst (λ (t : Told). EndsOrReturns (t .ending)) (at-zeros f d) (x (manual ours [] [] .seqs) (manual ours [] [] .lists) 0))
+passing-all-fails f x d = passed-so (Faults 0 (fault 2 0)) (subst (λ (t : Told). EndsOrReturns (t .ending)) (at-zeros f d) (x (manual ours [] [] .seqs) (manual ours [] [] .lists) 0))
 
 pub faulting-all-fails : FaultingAllFails
 faulting-all-fails f x d =
     let (code, n, place, e) = x (manual ours terminates [] .seqs) (manual ours terminates [] .lists) 0 in
-    let w : Finishes ≡ Faulty code n place = ap (λ (t : Told). t .ending) (sym (at-ends f d ∙ computed .1 .tells-so)) ∙ fault-so e in
+    let w : Finishes ≡ Faults n (fault code place) = ap (λ (t : Told). t .ending) (sym (at-ends f d ∙ computed .1 .tells-so)) ∙ fault-so e in
     let z : _≡_ {A = ℕ} 0 1 = cc in omega arith
 
 -- of this chain ours tells that it ends
@@ -232,8 +234,8 @@ idle-unit-fails f x d =
     let s = auto L terminates [] in
     let os = outcomes L (steps 1) s in
     let r = kept L d terminates [] refl refl (computed .1 .mode) ends-well (steps 1) (stepped-on L 1 s) in
-    let works : FirstThen 2 Works (GoesOn (s .seqs) Finishes (0 ∷ [])) os =
-    subst (λ (t : Told). FirstThen (t .steps) Works (GoesOn (s .seqs) (t .ending) (t .names)) os) (computed .1 .tells-so) (r .steps) in
+    let works : FirstThen 2 Works (GoesOn flight (s .seqs) Finishes (0 ∷ [])) os =
+    subst (λ (t : Told). FirstThen (t .steps) Works (GoesOn flight (s .seqs) (t .ending) (t .names)) os) (computed .1 .tells-so) (r .steps) in
     works .0 .1 (x (s .unit) (s .seqs) (s .lists))
 
 -- ── one of each
@@ -244,7 +246,7 @@ pub refuted : Refuted
 refuted =
     record {
       refuses-all = refusing-fails refusesAll (λ s. omega arith) .0;
-      writes-nothing = writing-nothing-fails writesNothing (λ s. record { sequences = refl; lineLists = refl }) obeyed-exactly;
+      writes-nothing = writing-nothing-fails writesNothing (λ s. record { sequences = refl; lineLists = refl }) (obeyed-exactly flight);
       always-idle = idling-fails alwaysIdle (λ E seqs s count. refl) .1;
       finishes-at-first = finishing-at-first-fails finishesAtFirst (λ E seqs s r e. rw r);
       finishes-at-call = finishing-at-call-fails finishesAtCall (λ E seqs s n e. at-call s (ours .runs E seqs s) n e);
@@ -256,19 +258,19 @@ refuted =
 
 -- ── misreadings: the exposure that is misplaced, and where the plan has it
 pub misread-refuted : MisreadRefuted
-unfolding xorOn tablesWrong rangeOf rangeAt limit lengthGood xorGood headerRows headerOf sizeOf decoded noneThere commandAt sizeAt starts startsOf among exposesBetween firstExposure targetGood rasterAt flagsGood listGood listTest pathRows rasterRows runRows exposeRows loopRows closeRows judged judge aborted entered begun advances exposed looped ended act stepIn stepOf between walked walk checkOne onward follow chainOf checkRows checkOf powerOn runsWrong rangeTests outOfRange moded selected kindOf ownRows lentWrong packetRows codeOf obeyedUnit refusedUnit obeyedSeqs obeyedLists unitAfter answerOf seqsAfter listsAfter stepRows taken unitStep
+unfolding xorOn tablesWrong rangeOf rangeAt limit lengthGood xorGood headerRows headerOf sizeOf decoded noneThere commandAt sizeAt starts startsOf among exposesBetween firstExposure targetGood rasterAt flagsGood somePast listCard pathRows rasterRows runRows exposeRows loopRows closeRows judged judge aborted entered begun advances exposed looped ended act stepIn stepOf walked walk checkOne onward follow chainOf checkRows checkOf powerOn runsWrong rangeTests outOfRange moded selected telecommandOf ownRows lentWrong packetRows codeOf effect obeyedUnit refusedUnit unitAfter answerOf seqsAfter listsAfter stepRows withStep unitStep
 misread-refuted =
     record {
       mirror-each-exposure =
           λ d.
           let L = mirrorEachExposure in
           let r = kept L d sets (lineList 1) refl refl refl (inl refl) (steps 9) (stepped-on L 9 (auto L sets (lineList 1))) in
-          let z : _≡_ {A = ℕ} 110 100 = ap (λ (es : List Event). getD (exposedAt es) 1 0) (r .planned refl) in omega arith;
+          let z : _≡_ {A = ℕ} 110 100 = ap (λ (es : List Event). getD (exposedPositions es) 1 0) (r .planned refl) in omega arith;
       repeat-at-last =
           λ d.
           let L = repeatAtLast in
           let r = kept L d repeats (lineList 1) refl refl refl (inl refl) (steps 12) (stepped-on L 12 (auto L repeats (lineList 1))) in
-          let z : _≡_ {A = ℕ} 110 100 = ap (λ (es : List Event). getD (exposedAt es) 2 0) (r .planned refl) in omega arith;
+          let z : _≡_ {A = ℕ} 110 100 = ap (λ (es : List Event). getD (exposedPositions es) 2 0) (r .planned refl) in omega arith;
       faulty-raster-passed =
           λ d.
           let L = faultyRasterPassed in

@@ -2,146 +2,115 @@
 -- numbers, and the right numbers. One theorem: every row is right. Assumes nothing.
 use Prim.Native.Nat.{ℕ}
 use mathlib.Core.Path.{_≡_, refl}
-use mathlib.Core.Bool.{Bool, true, false, cond, _&&_}
+use mathlib.Core.Bool.{true, cond}
 use mathlib.Core.List.{List, [], _∷_, _++_}
-use lib.Dec.{eqb}
 use lib.ListN.{replicate}
 use Rattle.octets.specs.Bytes.{xorOn}
-use Rattle.memory.specs.Memory.{listOf, tablesWrong, rangeOf, rangeAt}
+use Rattle.octets.proofs.Samples.{Sample, sample, allRight}
+use Rattle.memory.specs.Memory.{flight, tablesWrong, rangeOf, rangeAt}
 use Rattle.sequence.specs.declared.RasterWords.{RasterWords}
 use Rattle.sequence.specs.Text.{limit, lengthGood, xorGood, headerRows, headerOf, sizeOf, decoded, noneThere, commandAt, sizeAt}
 use Rattle.sequence.specs.Starts.{starts, startsOf, among, exposesBetween, firstExposure, targetGood}
-use Rattle.sequence.specs.Raster.{rasterAt, flagsGood}
-use Rattle.sequence.specs.LineList.{listGood, listTest, isGood}
-use Rattle.sequence.specs.Env.{envOf}
+use Rattle.sequence.specs.Raster.{rasterAt, flagsGood, somePast}
+use Rattle.sequence.specs.LineList.{listCard, isBad}
+use Rattle.sequence.specs.Env.{cardsOf, envOf}
+use Rattle.sequence.proofs.SampleTables.{seqs, lists, ends, calls, lineList, fields, raster, rasterAtPosition, theRaster}
 use Rattle.runner.specs.declared.Runner.{Runner}
 use Rattle.runner.specs.Judge.{pathRows, rasterRows, runRows, exposeRows, loopRows, closeRows, judged, judge}
 use Rattle.runner.specs.Step.{aborted, entered, begun, advances, exposed, looped, delayed, called, ended, act, stepIn, stepOf}
-use Rattle.survey.specs.Walk.{between, walked, walk, checkOne}
-use Rattle.survey.specs.Chain.{Told, onward, follow, chainOf, checkRows, checkOf}
-use Rattle.survey.specs.Report.{EndingShown, endingShown}
+use Rattle.survey.specs.Walk.{walked, walk, checkOne}
+use Rattle.survey.specs.Chain.{onward, follow, chainOf, checkRows, checkOf}
+use Rattle.survey.proofs.Samples.{toldNumbers}
 use Rattle.unit.specs.declared.Log.{Log}
 use Rattle.unit.specs.declared.Answer.{Answer}
 use Rattle.unit.specs.State.{powerOn, runsWrong, rangeTests, outOfRange}
-use Rattle.unit.specs.Packet.{kindOf, ownRows, lentWrong, packetRows, codeOf}
-use Rattle.unit.specs.Answer.{obeyedUnit, reply, refusedUnit, unitAfter, replyOf, answerOf}
+use Rattle.unit.specs.Packet.{telecommandOf, ownRows, lentWrong, packetRows, codeOf}
+use Rattle.unit.specs.Answer.{effect, obeyedUnit, reply, refusedUnit, unitAfter, replyOf, answerOf}
 use Rattle.promises.specs.Runs.{positionsSeen, sightsOf}
-use Rattle.promises.specs.Demand3.{chainPlan, exposedAt}
-use Rattle.promises.proofs.SampleTables.{seqs, lists, ends, calls, lineList, fields, raster}
+use Rattle.promises.specs.Demand3.{chainPlan, exposedPositions}
 
 -- ── what is asked
 -- the check of sequence 0: how it ends (1 ends, 3 fault) with code, sequence and place; steps, exposures, and the listed sequences
-abbrev endNumbers : EndingShown → List ℕ → List ℕ
-endNumbers e rest = e .number ∷ e .code ∷ e .sequence ∷ e .place ∷ rest
-
-abbrev toldNumbers : Told → List ℕ
-toldNumbers t = endNumbers (endingShown (t .ending)) (t .steps ∷ t .exposures ∷ t .names)
-
 abbrev checked : List ℕ → List ℕ → List ℕ
-checked sequence list = toldNumbers (checkOf (seqs sequence) (lists list) 0)
+checked sequence list = toldNumbers (checkOf flight (seqs sequence) (lists list) 0)
 
 -- where demand 3's own plan has the exposures of sequence 0, and where the interpreter's first steps make them, from the start of that sequence
 abbrev planned : List ℕ → List ℕ
-planned sequence = exposedAt (chainPlan (seqs sequence) (0 ∷ []))
+planned sequence = exposedPositions (chainPlan flight (seqs sequence) (0 ∷ []))
 
 abbrev started : Runner
 started =
-    record { sequence = 0; place = 0; running = true; entering = true; raster = 255; count = 0; passes = 0; repeats = 0; rounds = 0; mirror = 0 }
+    record { sequence = 0; place = 0; running = true; entering = true; raster = record { place = 255; count = 0; passes = 0; repeats = 0 }; rounds = 0; mirror = 0 }
 
 abbrev seenIn : ℕ → List ℕ → List ℕ → List ℕ
-seenIn steps sequence list = positionsSeen (sightsOf (envOf (lists list)) (seqs sequence) steps started)
+seenIn steps sequence list = positionsSeen (sightsOf (envOf flight (lists list)) (seqs sequence) steps started)
 
 -- whether line list 0 is good: 1 or 0
 abbrev good : List ℕ → List ℕ
-good list = cond (isGood (listTest (listOf (lists list) 0))) 1 0 ∷ []
+good list = cond (isBad (cardsOf (lists list) 0)) 0 1 ∷ []
 
 -- a packet to the unit at power-on: its code, the length of its answer, and the log
 abbrev logNumbers : Log → List ℕ
 logNumbers l = l .bc1 ∷ l .bc2 ∷ l .bc3 ∷ l .size ∷ []
 
 abbrev answerNumbers : Answer → List ℕ
-answerNumbers a = a .code ∷ a .length ∷ logNumbers (a .unit .ledger .log)
+answerNumbers a = a .code ∷ a .size ∷ logNumbers (a .unit .ledger .log)
 
 abbrev sent : List ℕ → List ℕ
-sent packet = answerNumbers (answerOf powerOn 0 (seqs []) (lists []) (seqs []) packet)
+sent packet = answerNumbers (answerOf flight powerOn 0 (seqs []) (lists []) (seqs []) packet)
 
 -- ── the rows
-record Row : Type 0 where
-  asked : List ℕ
-  right : List ℕ
-
-abbrev row : List ℕ → List ℕ → Row
-row asked right = record { asked = asked; right = right }
-
 -- every field of a raster, word by word
 abbrev wordNumbers : RasterWords → List ℕ
 wordNumbers w =
     w .id ∷ w .initial ∷ w .loops ∷ w .compression ∷ w .ocbx ∷ w .ocby ∷ w .flush ∷ w .flushes ∷ w .spare ∷ w .exposures ∷ w .asrc ∷ w .nodes ∷ w .repeats
     ∷ w .skip ∷ w .readout ∷ w .step ∷ w .list ∷ w .science ∷ []
 
--- the raster sample of document 01 with another initial position
-abbrev rasterAtPosition : ℕ → ℕ → ℕ → List ℕ
-rasterAtPosition high low sum = raster 0x22 (fields high low 3 1 2 0 0) 1 sum
-
-abbrev theRaster : List ℕ
-theRaster = rasterAtPosition 0x00 0x64 0xC0
-
-abbrev rows : List Row
-rows =
+abbrev samples : List Sample
+samples =
     -- "`06 00 01 01 94 92` passes: 2 steps, 0 exposures. Last byte 93: code 2."
-    row (checked (ends 0x92) []) (1 ∷ 0 ∷ 0 ∷ 0 ∷ 2 ∷ 0 ∷ 0 ∷ [])
-    ∷ row (checked (ends 0x93) []) (3 ∷ 2 ∷ 0 ∷ 0 ∷ 0 ∷ 0 ∷ 0 ∷ [])
+    sample (checked (ends 0x92) []) (1 ∷ 0 ∷ 0 ∷ 0 ∷ 2 ∷ 0 ∷ 0 ∷ [])
+    ∷ sample (checked (ends 0x93) []) (3 ∷ 2 ∷ 0 ∷ 0 ∷ 0 ∷ 0 ∷ 0 ∷ [])
     -- "Line list 0: .. good. Byte 2 zero: bad." 25 windows fill the entry, 26 do not fit
-    ∷ row (good (lineList 1)) (1 ∷ [])
-    ∷ row (good (lineList 0)) (0 ∷ [])
-    ∷ row (good (0xA4 ∷ 0x00 ∷ 25 ∷ 0xBD ∷ [])) (1 ∷ [])
-    ∷ row (good (0xAA ∷ 0x00 ∷ 26 ∷ 0xB0 ∷ [])) (0 ∷ [])
+    ∷ sample (good (lineList 1)) (1 ∷ [])
+    ∷ sample (good (lineList 0)) (0 ∷ [])
+    ∷ sample (good (0xA4 ∷ 0x00 ∷ 25 ∷ 0xBD ∷ [])) (1 ∷ [])
+    ∷ sample (good (0xAA ∷ 0x00 ∷ 26 ∷ 0xB0 ∷ [])) (0 ∷ [])
     -- "With it, [the raster sequence]: 6 exposures at 100, 110, 120, 100, 110, 120; 16 steps."
-    ∷ row (checked theRaster (lineList 1)) (1 ∷ 0 ∷ 0 ∷ 0 ∷ 16 ∷ 6 ∷ 0 ∷ [])
-    ∷ row (planned theRaster) (100 ∷ 110 ∷ 120 ∷ 100 ∷ 110 ∷ 120 ∷ [])
-    ∷ row (seenIn 16 theRaster (lineList 1)) (100 ∷ 110 ∷ 120 ∷ 100 ∷ 110 ∷ 120 ∷ [])
+    ∷ sample (checked theRaster (lineList 1)) (1 ∷ 0 ∷ 0 ∷ 0 ∷ 16 ∷ 6 ∷ 0 ∷ [])
+    ∷ sample (planned theRaster) (100 ∷ 110 ∷ 120 ∷ 100 ∷ 110 ∷ 120 ∷ [])
+    ∷ sample (seenIn 16 theRaster (lineList 1)) (100 ∷ 110 ∷ 120 ∷ 100 ∷ 110 ∷ 120 ∷ [])
     -- "Initial 2380, 3 loops, step 10 fits; 2381 gives 14."
-    ∷ row (checked (rasterAtPosition 0x09 0x4C 0xE1) (lineList 1)) (1 ∷ 0 ∷ 0 ∷ 0 ∷ 16 ∷ 6 ∷ 0 ∷ [])
-    ∷ row (checked (rasterAtPosition 0x09 0x4D 0xE0) (lineList 1)) (3 ∷ 14 ∷ 0 ∷ 4 ∷ 0 ∷ 0 ∷ 0 ∷ [])
+    ∷ sample (checked (rasterAtPosition 0x09 0x4C 0xE1) (lineList 1)) (1 ∷ 0 ∷ 0 ∷ 0 ∷ 16 ∷ 6 ∷ 0 ∷ [])
+    ∷ sample (checked (rasterAtPosition 0x09 0x4D 0xE0) (lineList 1)) (3 ∷ 14 ∷ 0 ∷ 4 ∷ 0 ∷ 0 ∷ 0 ∷ [])
     -- science bit 2 alone; bits 2 and 4: 3
-    ∷ row (checked (raster 0x22 (fields 0x00 0x64 3 1 2 0 0x20) 1 0xE0) (lineList 1)) (1 ∷ 0 ∷ 0 ∷ 0 ∷ 16 ∷ 6 ∷ 0 ∷ [])
-    ∷ row (checked (raster 0x22 (fields 0x00 0x64 3 1 2 0 0x28) 1 0xE8) (lineList 1)) (3 ∷ 3 ∷ 0 ∷ 4 ∷ 0 ∷ 0 ∷ 0 ∷ [])
+    ∷ sample (checked (raster 0x22 (fields 0x00 0x64 3 1 2 0 0x20) 1 0xE0) (lineList 1)) (1 ∷ 0 ∷ 0 ∷ 0 ∷ 16 ∷ 6 ∷ 0 ∷ [])
+    ∷ sample (checked (raster 0x22 (fields 0x00 0x64 3 1 2 0 0x28) 1 0xE8) (lineList 1)) (3 ∷ 3 ∷ 0 ∷ 4 ∷ 0 ∷ 0 ∷ 0 ∷ [])
     -- a call of 128: 4
-    ∷ row (checked (calls 128 0x15) []) (3 ∷ 4 ∷ 0 ∷ 4 ∷ 0 ∷ 0 ∷ 0 ∷ [])
+    ∷ sample (checked (calls 128 0x15) []) (3 ∷ 4 ∷ 0 ∷ 4 ∷ 0 ∷ 0 ∷ 0 ∷ [])
     -- 8 exposures; 9: 5
-    ∷ row (checked (raster 0x37 (fields 0x00 0x64 3 8 2 0 0) 8 0x29) (lineList 1)) (1 ∷ 0 ∷ 0 ∷ 0 ∷ 58 ∷ 48 ∷ 0 ∷ [])
-    ∷ row (checked (raster 0x22 (fields 0x00 0x64 3 9 2 0 0) 1 0xC8) (lineList 1)) (3 ∷ 5 ∷ 0 ∷ 4 ∷ 0 ∷ 0 ∷ 0 ∷ [])
+    ∷ sample (checked (raster 0x37 (fields 0x00 0x64 3 8 2 0 0) 8 0x29) (lineList 1)) (1 ∷ 0 ∷ 0 ∷ 0 ∷ 58 ∷ 48 ∷ 0 ∷ [])
+    ∷ sample (checked (raster 0x22 (fields 0x00 0x64 3 9 2 0 0) 1 0xC8) (lineList 1)) (3 ∷ 5 ∷ 0 ∷ 4 ∷ 0 ∷ 0 ∷ 0 ∷ [])
     -- line list 47; 48: 6
-    ∷ row (checked (raster 0x22 (fields 0x00 0x64 3 1 2 47 0) 1 0xEF) (replicate 7708 0 ++ lineList 1)) (1 ∷ 0 ∷ 0 ∷ 0 ∷ 16 ∷ 6 ∷ 0 ∷ [])
-    ∷ row (checked (raster 0x22 (fields 0x00 0x64 3 1 2 48 0) 1 0xF0) (lineList 1)) (3 ∷ 6 ∷ 0 ∷ 4 ∷ 0 ∷ 0 ∷ 0 ∷ [])
+    ∷ sample (checked (raster 0x22 (fields 0x00 0x64 3 1 2 47 0) 1 0xEF) (replicate 7708 0 ++ lineList 1)) (1 ∷ 0 ∷ 0 ∷ 0 ∷ 16 ∷ 6 ∷ 0 ∷ [])
+    ∷ sample (checked (raster 0x22 (fields 0x00 0x64 3 1 2 48 0) 1 0xF0) (lineList 1)) (3 ∷ 6 ∷ 0 ∷ 4 ∷ 0 ∷ 0 ∷ 0 ∷ [])
     -- loops 0: 11
-    ∷ row (checked (raster 0x22 (fields 0x00 0x64 0 1 2 0 0) 1 0xC3) (lineList 1)) (3 ∷ 11 ∷ 0 ∷ 4 ∷ 0 ∷ 0 ∷ 0 ∷ [])
+    ∷ sample (checked (raster 0x22 (fields 0x00 0x64 0 1 2 0 0) 1 0xC3) (lineList 1)) (3 ∷ 11 ∷ 0 ∷ 4 ∷ 0 ∷ 0 ∷ 0 ∷ [])
     -- eleven words, no byte of which is like another: every field at its place
-    ∷ row
+    ∷ sample
     (wordNumbers
     (rasterAt
     (0x90 ∷ 0x11 ∷ 0x1B ∷ 0x25 ∷ 0x2F ∷ 0x39 ∷ 0x43 ∷ 0x4D ∷ 0x57 ∷ 0x61 ∷ 0x6B ∷ 0x75 ∷ 0x7F ∷ 0x89 ∷ 0x93 ∷ 0x9D ∷ 0xA7 ∷ 0xB1 ∷ 0xBB ∷ 0xC5 ∷ 0xCF ∷ 0xD9 ∷ 0xE3 ∷ []) 0))
     (0x111B ∷ 0x252F ∷ 0x3943 ∷ 0x4D57 ∷ 0x61 ∷ 0x6B ∷ 0x75 ∷ 0x7F ∷ 0x8 ∷ 0x9 ∷ 0x93 ∷ 0x9 ∷ 0xDA7 ∷ 0xB1 ∷ 0xBB ∷ 0xC5CF ∷ 0xD9 ∷ 0xE3 ∷ [])
     -- "Count 128 at 0x073F80 fits; at 0x073F81, code 7." A dump, and an uplink
-    ∷ row (sent (0x07 ∷ 0x07 ∷ 0x3F ∷ 0x80 ∷ 0x00 ∷ 0x00 ∷ 0x80 ∷ [])) (0 ∷ 128 ∷ 0x07 ∷ 0x07 ∷ 0x3F ∷ 0x07 ∷ [])
-    ∷ row (sent (0x07 ∷ 0x07 ∷ 0x3F ∷ 0x81 ∷ 0x00 ∷ 0x00 ∷ 0x80 ∷ [])) (7 ∷ 0 ∷ 0x07 ∷ 0x07 ∷ 0x3F ∷ 0x07 ∷ [])
-    ∷ row (sent (0xE7 ∷ 0x07 ∷ 0x3F ∷ 0x80 ∷ 0x80 ∷ replicate 128 0xAA)) (0 ∷ 0 ∷ 0xE7 ∷ 0x07 ∷ 0x3F ∷ 0x85 ∷ [])
-    ∷ row (sent (0xE7 ∷ 0x07 ∷ 0x3F ∷ 0x81 ∷ 0x80 ∷ replicate 128 0xAA)) (7 ∷ 0 ∷ 0xE7 ∷ 0x07 ∷ 0x3F ∷ 0x85 ∷ [])
+    ∷ sample (sent (0x07 ∷ 0x07 ∷ 0x3F ∷ 0x80 ∷ 0x00 ∷ 0x00 ∷ 0x80 ∷ [])) (0 ∷ 128 ∷ 0x07 ∷ 0x07 ∷ 0x3F ∷ 0x07 ∷ [])
+    ∷ sample (sent (0x07 ∷ 0x07 ∷ 0x3F ∷ 0x81 ∷ 0x00 ∷ 0x00 ∷ 0x80 ∷ [])) (7 ∷ 0 ∷ 0x07 ∷ 0x07 ∷ 0x3F ∷ 0x07 ∷ [])
+    ∷ sample (sent (0xE7 ∷ 0x07 ∷ 0x3F ∷ 0x80 ∷ 0x80 ∷ replicate 128 0xAA)) (0 ∷ 0 ∷ 0xE7 ∷ 0x07 ∷ 0x3F ∷ 0x85 ∷ [])
+    ∷ sample (sent (0xE7 ∷ 0x07 ∷ 0x3F ∷ 0x81 ∷ 0x80 ∷ replicate 128 0xAA)) (7 ∷ 0 ∷ 0xE7 ∷ 0x07 ∷ 0x3F ∷ 0x85 ∷ [])
     -- "Uplink of 100 bytes to 0x060000 by E5: code 6, log E5 06 00 69."
-    ∷ row (sent (0xE5 ∷ 0x06 ∷ 0x00 ∷ 0x00 ∷ 0x64 ∷ replicate 100 0xAA)) (6 ∷ 0 ∷ 0xE5 ∷ 0x06 ∷ 0x00 ∷ 0x69 ∷ [])
+    ∷ sample (sent (0xE5 ∷ 0x06 ∷ 0x00 ∷ 0x00 ∷ 0x64 ∷ replicate 100 0xAA)) (6 ∷ 0 ∷ 0xE5 ∷ 0x06 ∷ 0x00 ∷ 0x69 ∷ [])
     ∷ []
 
--- ── the test
-abbrev same : List ℕ → List ℕ → Bool
-same [] [] = true
-same [] (n ∷ ns) = false
-same (m ∷ ms) [] = false
-same (m ∷ ms) (n ∷ ns) = eqb m n && same ms ns
-
-abbrev allRight : List Row → Bool
-allRight [] = true
-allRight (r ∷ rs) = same (r .asked) (r .right) && allRight rs
-
-pub samples-right : allRight rows ≡ true
-unfolding xorOn tablesWrong rangeOf rangeAt limit lengthGood xorGood headerRows headerOf sizeOf decoded noneThere commandAt sizeAt starts startsOf among exposesBetween firstExposure targetGood rasterAt flagsGood listGood listTest pathRows rasterRows runRows exposeRows loopRows closeRows judged judge aborted entered begun advances exposed looped delayed called ended act stepIn stepOf between walked walk checkOne onward follow chainOf checkRows checkOf powerOn runsWrong rangeTests outOfRange kindOf ownRows lentWrong packetRows codeOf obeyedUnit reply refusedUnit unitAfter replyOf answerOf sightsOf
+pub samples-right : allRight samples ≡ true
+unfolding xorOn tablesWrong rangeOf rangeAt limit lengthGood xorGood headerRows headerOf sizeOf decoded noneThere commandAt sizeAt starts startsOf among exposesBetween firstExposure targetGood rasterAt flagsGood somePast listCard pathRows rasterRows runRows exposeRows loopRows closeRows judged judge aborted entered begun advances exposed looped delayed called ended act stepIn stepOf walked walk checkOne onward follow chainOf checkRows checkOf powerOn runsWrong rangeTests outOfRange telecommandOf ownRows lentWrong packetRows codeOf effect obeyedUnit reply refusedUnit unitAfter replyOf answerOf sightsOf
 samples-right = refl

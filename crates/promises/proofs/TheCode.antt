@@ -1,5 +1,5 @@
 -- The demands, for the code: the contracts are equations with what the demands name. Assumes nothing.
-use Rattle.promises.specs.TheCode.{PowerOnIs, PacketIs, StepIs, RunIs, CheckIs, WindowCodeIs, WindowIs, OutOfRangeIs, KindIs}
+use Rattle.promises.specs.TheCode.{PowerOnIs, PacketIs, StepIs, RunIs, CheckIs, WindowCodeIs, WindowIs, OutOfRangeIs, TelecommandIs}
 
 pub power-on-is : PowerOnIs
 power-on-is κs args result exit learnt = learnt
@@ -25,5 +25,5 @@ window-is κs args result exit learnt = learnt
 pub out-of-range-is : OutOfRangeIs
 out-of-range-is κs args result exit learnt = learnt
 
-pub kind-is : KindIs
-kind-is κs args result exit learnt = learnt
+pub telecommand-is : TelecommandIs
+telecommand-is κs args result exit learnt = learnt

@@ -6,13 +6,14 @@ use mathlib.Core.Bool.{true}
 use mathlib.Core.List.{List, [], _∷_}
 use mathlib.Core.Logic.{_⊎_}
 use Rattle.octets.specs.Bytes.{byteAt}
+use Rattle.memory.specs.declared.Format.{Format}
 use Rattle.sequence.specs.Starts.{among}
 use Rattle.unit.specs.declared.Unit.{Unit as ControlUnit}
 use Rattle.unit.specs.declared.Outcome.the-variants.{Denied}
 use Rattle.unit.specs.State.{counted, logOf}
 use Rattle.promises.specs.Library.{Library}
 use Rattle.promises.specs.Runs.{idle, Showing}
-use Rattle.promises.specs.Sent.{Sent, code, after, TablesKept, NoAnswer}
+use Rattle.promises.specs.Sent.{Sent, code, unitLeft, TablesKept, NoAnswer}
 
 -- ── 1. Every call is answered
 
@@ -26,8 +27,8 @@ use Rattle.promises.specs.Sent.{Sent, code, after, TablesKept, NoAnswer}
 abbrev pub answers : List ℕ
 answers = 0 ∷ 1 ∷ 3 ∷ 4 ∷ 5 ∷ 6 ∷ 7 ∷ 8 ∷ 9 ∷ 10 ∷ 16 ∷ 17 ∷ []
 
-abbrev pub NoOtherCode : Library → Type 0
-NoOtherCode L = (s : Sent) → among (code L s) answers ≡ true
+abbrev pub NoOtherCode : Format → Library → Type 0
+NoOtherCode F L = (s : Sent F) → among (code L s) answers ≡ true
 
 -- ── 2. A refused packet
 
@@ -48,29 +49,29 @@ pub record Refused (p : List ℕ) (c : ℕ) (was is : ControlUnit) : Type 0 wher
 
 -- "Refusals write no output and no table." A packet with a code that is not 0, and below 16, is counted, logged and shown as failed; all
 -- else stays: the rest of the state, both tables, the output.
-abbrev pub RefusedKeeps : Library → Type 0
-RefusedKeeps L = (s : Sent) → 0 < code L s → code L s < 16 → Refused (s .bytes) (code L s) (s .unit) (after L s) × TablesKept L s × NoAnswer L s
+abbrev pub RefusedKeeps : Format → Library → Type 0
+RefusedKeeps F L = (s : Sent F) → 0 < code L s → code L s < 16 → Refused (s .bytes) (code L s) (s .unit) (unitLeft L s) × TablesKept L s × NoAnswer L s
 
 -- ── 3. 16 and 17
 
 -- "16 and 17 change nothing and aren't counted." Nothing at all: the unit, the tables, the output.
-abbrev pub Unchanged : Library → Sent → Type 0
-Unchanged L s = (after L s ≡ s .unit) × TablesKept L s × NoAnswer L s
+abbrev pub Unchanged : {F : Format} → Library → Sent F → Type 0
+Unchanged L s = (unitLeft L s ≡ s .unit) × TablesKept L s × NoAnswer L s
 
-abbrev pub SixteenKeeps : Library → Type 0
-SixteenKeeps L = (s : Sent) → code L s ≡ 16 → Unchanged L s
+abbrev pub SixteenKeeps : Format → Library → Type 0
+SixteenKeeps F L = (s : Sent F) → code L s ≡ 16 → Unchanged L s
 
-abbrev pub SeventeenKeeps : Library → Type 0
-SeventeenKeeps L = (s : Sent) → code L s ≡ 17 → Unchanged L s
+abbrev pub SeventeenKeeps : Format → Library → Type 0
+SeventeenKeeps F L = (s : Sent F) → code L s ≡ 17 → Unchanged L s
 
 -- ── 4. Steps, the check and the window
 
 -- A step that is denied changes nothing in the unit, and it is denied with 16 or 17 alone. A step, a check and a window borrow their tables
 -- for reading and have no output, so there is nothing else that one of them could change.
-abbrev pub DeniedKeeps : Library → Type 0
-DeniedKeeps L = (u : ControlUnit) (seqs lists : List ℕ) (c : ℕ) → L .steps u seqs lists .outcome ≡ Denied c
-    → ((c ≡ 16) ⊎ (c ≡ 17)) × (L .steps u seqs lists .unit ≡ u)
+abbrev pub DeniedKeeps : Format → Library → Type 0
+DeniedKeeps F L = (u : ControlUnit) (seqs lists : List ℕ) (c : ℕ) → L .steps F u seqs lists .outcome ≡ Denied c
+    → ((c ≡ 16) ⊎ (c ≡ 17)) × (L .steps F u seqs lists .unit ≡ u)
 
 -- "A step not running is idle and changes nothing."
-abbrev pub IdleKeeps : Library → Type 0
-IdleKeeps L = (u : ControlUnit) (seqs lists : List ℕ) → Showing (L .steps u seqs lists .outcome) idle → L .steps u seqs lists .unit ≡ u
+abbrev pub IdleKeeps : Format → Library → Type 0
+IdleKeeps F L = (u : ControlUnit) (seqs lists : List ℕ) → Showing (L .steps F u seqs lists .outcome) idle → L .steps F u seqs lists .unit ≡ u

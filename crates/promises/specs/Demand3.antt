@@ -7,17 +7,19 @@ use mathlib.Core.List.{List, [], _∷_, _++_}
 use mathlib.Core.Logic.{_⊎_}
 use lib.ListN.{length}
 use Rattle.octets.specs.Bytes.{byteAt}
+use Rattle.memory.specs.declared.Format.{Format}
 use Rattle.memory.specs.Memory.{entryOf}
 use Rattle.sequence.specs.declared.Command.{Command}
 use Rattle.sequence.specs.declared.Command.the-variants.{CallSequence, Terminate}
+use Rattle.sequence.specs.declared.Fault.{Fault}
 use Rattle.sequence.specs.declared.RasterWords.{RasterWords}
-use Rattle.sequence.specs.Text.{commandAt, isRunRaster}
-use Rattle.sequence.specs.Starts.{startsOf, among}
+use Rattle.sequence.specs.Text.{commandAt}
+use Rattle.sequence.specs.Starts.{startsOf, rastersAmong, among}
 use Rattle.sequence.specs.Raster.{rasterAt, startOf}
 use Rattle.runner.specs.declared.Event.{Event}
 use Rattle.runner.specs.declared.Event.the-variants.{Enter, Raster, Exp}
 use Rattle.survey.specs.declared.Ending.{Ending}
-use Rattle.survey.specs.declared.Ending.the-variants.{Finishes, Returns, Faulty}
+use Rattle.survey.specs.declared.Ending.the-variants.{Finishes, Returns, Faults}
 use Rattle.survey.specs.Turns.{turns}
 use Rattle.survey.specs.Items.{positionAt}
 use Rattle.survey.specs.Chain.{Told}
@@ -31,13 +33,13 @@ use Rattle.promises.specs.Library.{Library}
 
 -- ── 1. The unit, and what is done to it
 
--- The unit, with the sequence table and the line lists that its caller lends it.
-pub record World : Type 0 where
+-- The unit, with the sequence table and the line lists that its caller lends it; the sequence table is read by a format.
+pub record World (F : Format) : Type 0 where
   pub unit : ControlUnit
   pub seqs : List ℕ
   pub lists : List ℕ
 
-abbrev pub world : ControlUnit → List ℕ → List ℕ → World
+abbrev pub world : {F : Format} → ControlUnit → List ℕ → List ℕ → World F
 world unit seqs lists = record { unit = unit; seqs = seqs; lists = lists }
 
 -- Two things are done to it. A step of the interpreter; or a packet of any bytes, sent with any output for its answer, at any time.
@@ -46,34 +48,34 @@ pub data Action : Type 0 where
   packet : (out : List ℕ) (time : ℕ) (bytes : List ℕ) → Action
 
 -- What an action leaves. The tables are "written only by uplinks": nothing changes them but what the unit does with a packet.
-abbrev pub after : Library → Action → World → World
-after L step w = world (L .steps (w .unit) (w .seqs) (w .lists) .unit) (w .seqs) (w .lists)
-after L (packet out time bytes) w =
-    world (L .answers (w .unit) time (w .seqs) (w .lists) out bytes .unit)
-    (L .seqsLeft (w .unit) (w .seqs) (w .lists) out bytes)
-    (L .listsLeft (w .unit) (w .seqs) (w .lists) out bytes)
+abbrev pub after : {F : Format} → Library → Action → World F → World F
+after {F} L step w = world (L .steps F (w .unit) (w .seqs) (w .lists) .unit) (w .seqs) (w .lists)
+after {F} L (packet out time bytes) w =
+    world (L .answers F (w .unit) time (w .seqs) (w .lists) out bytes .unit)
+    (L .seqsLeft F (w .unit) (w .seqs) (w .lists) out bytes)
+    (L .listsLeft F (w .unit) (w .seqs) (w .lists) out bytes)
 
-abbrev pub afterAll : Library → List Action → World → World
+abbrev pub afterAll : {F : Format} → Library → List Action → World F → World F
 afterAll L [] w = w
 afterAll L (a ∷ acts) w = afterAll L acts (after L a w)
 
 -- What is seen of the steps among the actions, in order: of each an event, or a denial with its code. So there are as many of them as steps.
-abbrev pub outcomes : Library → List Action → World → List Outcome
+abbrev pub outcomes : {F : Format} → Library → List Action → World F → List Outcome
 outcomes L [] w = []
-outcomes L (step ∷ acts) w = L .steps (w .unit) (w .seqs) (w .lists) .outcome ∷ outcomes L acts (after L step w)
+outcomes {F} L (step ∷ acts) w = L .steps F (w .unit) (w .seqs) (w .lists) .outcome ∷ outcomes L acts (after L step w)
 outcomes L (packet out time bytes ∷ acts) w = outcomes L acts (after L (packet out time bytes) w)
 
 -- "Demand 3 speaks of states reached from power-on": by any actions, over tables of the right sizes that hold anything. Before a run its
 -- caller may lend others.
-pub data Reached (L : Library) : World → Type 0 where
+pub data Reached {F : Format} (L : Library) : World F → Type 0 where
   powered : (seqs lists : List ℕ) → length seqs ≡ 16384 → length lists ≡ 7872 → Reached L (world (L .powersOn) seqs lists)
-  lent : {w : World} (seqs lists : List ℕ) → length seqs ≡ 16384 → length lists ≡ 7872 → Reached L w → Reached L (world (w .unit) seqs lists)
-  acted : {w : World} (a : Action) → Reached L w → Reached L (after L a w)
+  lent : {w : World F} (seqs lists : List ℕ) → length seqs ≡ 16384 → length lists ≡ 7872 → Reached L w → Reached L (world (w .unit) seqs lists)
+  acted : {w : World F} (a : Action) → Reached L w → Reached L (after L a w)
 
 -- ── 2. Selected, started and not called back
 
 -- "Modes: 1 STANDBY, 2 MANUAL, 3 AUTO."
-abbrev pub modeOf : World → ℕ
+abbrev pub modeOf : {F : Format} → World F → ℕ
 modeOf w = w .unit .control .mode
 
 -- The packet that selects sequence n, the packet that starts it, and the code that a packet is answered: 0 where it is obeyed.
@@ -83,18 +85,18 @@ selecting n = 0x83 ∷ n ∷ []
 abbrev pub starting : List ℕ
 starting = 0x21 ∷ 0x03 ∷ []
 
-abbrev pub codeFor : Library → List ℕ → ℕ → List ℕ → World → ℕ
-codeFor L out time bytes w = L .answers (w .unit) time (w .seqs) (w .lists) out bytes .code
+abbrev pub codeFor : {F : Format} → Library → List ℕ → ℕ → List ℕ → World F → ℕ
+codeFor {F} L out time bytes w = L .answers F (w .unit) time (w .seqs) (w .lists) out bytes .code
 
 -- "Stepped on with no call back to MANUAL": whatever is done, no packet 21 02 is answered 0. A step is no call back, whatever it leaves.
 abbrev pub callingBack : List ℕ
 callingBack = 0x21 ∷ 0x02 ∷ []
 
-abbrev pub CalledBack : Library → Action → World → Type 0
+abbrev pub CalledBack : {F : Format} → Library → Action → World F → Type 0
 CalledBack L step w = ⊥
 CalledBack L (packet out time bytes) w = (bytes ≡ callingBack) × (codeFor L out time bytes w ≡ 0)
 
-abbrev pub NeverCalledBack : Library → List Action → World → Type 0
+abbrev pub NeverCalledBack : {F : Format} → Library → List Action → World F → Type 0
 NeverCalledBack L [] w = Unit {0}
 NeverCalledBack L (a ∷ acts) w = (CalledBack L a w → ⊥) × NeverCalledBack L acts (after L a w)
 
@@ -109,19 +111,19 @@ lastOf d (p ∷ ps) = lastOf p ps
 abbrev pub closingOf : List ℕ → Command
 closingOf text = commandAt text (lastOf 0 (startsOf text))
 
-abbrev pub Calling : List ℕ → ℕ → ℕ → Type 0
-Calling seqs n m = closingOf (entryOf seqs n) ≡ CallSequence m
+abbrev pub Calling : Format → List ℕ → ℕ → ℕ → Type 0
+Calling F seqs n m = closingOf (entryOf F seqs n) ≡ CallSequence m
 
-abbrev pub Terminating : List ℕ → ℕ → Type 0
-Terminating seqs n = closingOf (entryOf seqs n) ≡ Terminate
+abbrev pub Terminating : Format → List ℕ → ℕ → Type 0
+Terminating F seqs n = closingOf (entryOf F seqs n) ≡ Terminate
 
 -- "Follows the call, and ends at terminate or at a sequence already listed." The chain from sequence n has these names in order: the first is n,
 -- and each next one is the call of the one before. The last one terminates; or its call is listed, and the chain returns; or the fault is in it.
-pub data Chain (seqs listed : List ℕ) : ℕ → List ℕ → Ending → Type 0 where
-  last-terminates : {n : ℕ} → Terminating seqs n → Chain seqs listed n (n ∷ []) Finishes
-  last-returns : {n m : ℕ} → Calling seqs n m → among m listed ≡ true → Chain seqs listed n (n ∷ []) Returns
-  last-faulty : {n code place : ℕ} → Chain seqs listed n (n ∷ []) (Faulty code n place)
-  then-called : {n m : ℕ} {names : List ℕ} {ending : Ending} → Calling seqs n m → Chain seqs listed m names ending → Chain seqs listed n (n ∷ names) ending
+pub data Chain (F : Format) (seqs listed : List ℕ) : ℕ → List ℕ → Ending → Type 0 where
+  last-terminates : {n : ℕ} → Terminating F seqs n → Chain F seqs listed n (n ∷ []) Finishes
+  last-returns : {n m : ℕ} → Calling F seqs n m → among m listed ≡ true → Chain F seqs listed n (n ∷ []) Returns
+  last-faulty : {n : ℕ} {fault : Fault} → Chain F seqs listed n (n ∷ []) (Faults n fault)
+  then-called : {n m : ℕ} {names : List ℕ} {ending : Ending} → Calling F seqs n m → Chain F seqs listed m names ending → Chain F seqs listed n (n ∷ names) ending
 
 -- "The listed ones once each": no two are the same.
 abbrev pub Differ : List ℕ → Type 0
@@ -129,8 +131,8 @@ Differ [] = Unit {0}
 Differ (n ∷ ns) = (among n ns ≡ false) × Differ ns
 
 -- What the check tells of the chain from sequence n: it has an answer, the names are that chain's, and no one is listed twice.
-pub record Lists (seqs : List ℕ) (n : ℕ) (t : Told) : Type 0 where
-  pub chain : Chain seqs (t .names) n (t .names) (t .ending)
+pub record Lists (F : Format) (seqs : List ℕ) (n : ℕ) (t : Told) : Type 0 where
+  pub chain : Chain F seqs (t .names) n (t .names) (t .ending)
   pub differ : Differ (t .names)
   -- "a fault gives .. totals 0"
   pub totals : endingShown (t .ending) .number ≡ 3 → (t .steps ≡ 0) × (t .exposures ≡ 0)
@@ -151,10 +153,6 @@ abbrev pub rasterPlan : RasterWords → List Event
 rasterPlan raster = turns 0 (raster .repeats) (λ turn left. repeatPlan raster turn)
 
 -- A round: the rasters of the text, in text order.
-abbrev pub rastersAmong : List ℕ → List ℕ → List ℕ
-rastersAmong text [] = []
-rastersAmong text (p ∷ ps) = cond (isRunRaster (commandAt text p)) (p ∷ rastersAmong text ps) (rastersAmong text ps)
-
 abbrev pub rastersPlan : List ℕ → List ℕ → List Event
 rastersPlan text [] = []
 rastersPlan text (p ∷ ps) = rasterPlan (rasterAt text p) ++ rastersPlan text ps
@@ -167,9 +165,9 @@ abbrev pub sequencePlan : ℕ → List ℕ → List Event
 sequencePlan n text = Enter n ∷ turns 0 (byteAt text 3) (λ r left. roundPlan text)
 
 -- A chain: the listed sequences, one after another.
-abbrev pub chainPlan : List ℕ → List ℕ → List Event
-chainPlan seqs [] = []
-chainPlan seqs (n ∷ ns) = sequencePlan n (entryOf seqs n) ++ chainPlan seqs ns
+abbrev pub chainPlan : Format → List ℕ → List ℕ → List Event
+chainPlan F seqs [] = []
+chainPlan F seqs (n ∷ ns) = sequencePlan n (entryOf F seqs n) ++ chainPlan F seqs ns
 
 -- ── 5. What is seen
 
@@ -180,17 +178,17 @@ eventsOf (Denied code ∷ os) = eventsOf os
 eventsOf (Saw e ∷ os) = e ∷ eventsOf os
 
 -- What each of these events shows, one after another.
-abbrev pub each : {A : Type 0} → (Event → List A) → List Event → List A
-each f [] = []
-each f (e ∷ es) = f e ++ each f es
+abbrev pub fromEach : {A : Type 0} → (Event → List A) → List Event → List A
+fromEach f [] = []
+fromEach f (e ∷ es) = f e ++ fromEach f es
 
 -- A landmark is an event that enters a sequence, begins a raster or makes an exposure: ENTER 1, RASTER 2, EXP 3.
 abbrev pub landmark : Event → List Event
 landmark e = cond (isA 1 e || (isA 2 e || isA 3 e)) (e ∷ []) []
 
 -- Where the exposures among these events were made.
-abbrev pub exposedAt : List Event → List ℕ
-exposedAt es = each positionShown es
+abbrev pub exposedPositions : List Event → List ℕ
+exposedPositions es = fromEach positionShown es
 
 -- A step goes well if it is neither denied nor an abort. It works if it is not idle either.
 abbrev pub GoesWell : Outcome → Type 0
@@ -231,11 +229,11 @@ HasFault code n place e = endingShown e ≡ endingAs 3 code n place
 
 -- How a run that the check passed goes on after the last command listed. A chain that ends has stopped: every step is idle. One that returns
 -- enters the sequence that the last one calls, a listed one.
-abbrev pub GoesOn : List ℕ → Ending → List ℕ → List Outcome → Type 0
-GoesOn seqs ending names [] = Unit {0}
-GoesOn seqs ending names (o ∷ os) =
+abbrev pub GoesOn : Format → List ℕ → Ending → List ℕ → List Outcome → Type 0
+GoesOn F seqs ending names [] = Unit {0}
+GoesOn F seqs ending names (o ∷ os) =
     (Ends ending → All IsIdle (o ∷ os))
-    × (ComesBack ending → (n : ℕ) × Calling seqs (lastOf 0 names) n × (among n names ≡ true) × Showing o (enters n))
+    × (ComesBack ending → (n : ℕ) × Calling F seqs (lastOf 0 names) n × (among n names ≡ true) × Showing o (enters n))
 
 -- How one with a fault goes on: the next step is the abort, and after it every step is idle.
 abbrev pub AbortsAt : ℕ → ℕ → ℕ → List Outcome → Type 0
@@ -243,118 +241,118 @@ AbortsAt code n place [] = Unit {0}
 AbortsAt code n place (o ∷ os) = Showing o (aborts code n place) × All IsIdle os
 
 -- A run that the check passed, as far as it was stepped on.
-pub record RunsAsTold (seqs : List ℕ) (t : Told) (os : List Outcome) : Type 0 where
+pub record RunsAsTold (F : Format) (seqs : List ℕ) (t : Told) (os : List Outcome) : Type 0 where
   -- "it never aborts", and no step is denied
   pub never : All GoesWell os
   -- no exposure is "past the end stop"
-  pub inReach : NonePast 2400 (exposedAt (eventsOf os))
+  pub inReach : NonePast 2400 (exposedPositions (eventsOf os))
   -- "the steps to the last command it lists equal the numbers it reports": so many steps work, and then it goes on as the chain ends
-  pub steps : FirstThen (t .steps) Works (GoesOn seqs (t .ending) (t .names)) os
+  pub steps : FirstThen (t .steps) Works (GoesOn F seqs (t .ending) (t .names)) os
   -- with these steps the listed sequences are entered in order, and "in each round of its sequence a raster takes exactly loops times
   -- exposures times repeats, each exposure at the position the formula gives"
-  pub planned : length os ≡ t .steps → each landmark (eventsOf os) ≡ chainPlan seqs (t .names)
+  pub planned : length os ≡ t .steps → fromEach landmark (eventsOf os) ≡ chainPlan F seqs (t .names)
   -- "the exposures .. equal the numbers it reports"
-  pub exposures : length os ≡ t .steps → length (exposedAt (eventsOf os)) ≡ t .exposures
+  pub exposures : length os ≡ t .steps → length (exposedPositions (eventsOf os)) ≡ t .exposures
 
 -- "If the check passed it", that is, the chain ends or returns: from s on, whatever is done but a call back, it runs as the check told.
-abbrev pub KeepsPassed : Library → Told → World → Type 0
-KeepsPassed L t s = EndsOrReturns (t .ending) → (acts : List Action) → NeverCalledBack L acts s → RunsAsTold (s .seqs) t (outcomes L acts s)
+abbrev pub KeepsPassed : {F : Format} → Library → Told → World F → Type 0
+KeepsPassed {F} L t s = EndsOrReturns (t .ending) → (acts : List Action) → NeverCalledBack L acts s → RunsAsTold F (s .seqs) t (outcomes L acts s)
 
 -- "If the check found a fault, the run aborts at that sequence and byte, with that code": from s on a number of steps work, and then
 -- it aborts, whatever is done but a call back.
-abbrev pub KeepsFaulted : Library → Told → World → Type 0
+abbrev pub KeepsFaulted : {F : Format} → Library → Told → World F → Type 0
 KeepsFaulted L t s = (code n place : ℕ) → HasFault code n place (t .ending)
     → (k : ℕ) × ((acts : List Action) → NeverCalledBack L acts s → FirstThen k Works (AbortsAt code n place) (outcomes L acts s))
 
 -- The demand. In MANUAL the packets 83 n and 21 03 are obeyed, one after the other; the check lists the chain from sequence n, and what it told
 -- is kept.
-abbrev pub Demand3 : Library → Type 0
-Demand3 L = (w : World) → Reached L w → modeOf w ≡ 2 → (n : ℕ) → n ≤ 127
+abbrev pub Demand3 : Format → Library → Type 0
+Demand3 F L = (w : World F) → Reached L w → modeOf w ≡ 2 → (n : ℕ) → n ≤ F .last
     → (out out′ : List ℕ) → 16384 ≤ length out → 16384 ≤ length out′ → (time time′ : ℕ)
-    → let t = L .checks (w .seqs) (w .lists) n in
+    → let t = L .checks F (w .seqs) (w .lists) n in
     let v = after L (packet out time (selecting n)) w in
     let s = after L (packet out′ time′ starting) v in
-    (codeFor L out time (selecting n) w ≡ 0) × (codeFor L out′ time′ starting v ≡ 0) × Lists (w .seqs) n t × KeepsPassed L t s × KeepsFaulted L t s
+    (codeFor L out time (selecting n) w ≡ 0) × (codeFor L out′ time′ starting v ≡ 0) × Lists F (w .seqs) n t × KeepsPassed L t s × KeepsFaulted L t s
 
 -- ── 7. Besides
 
 -- "A raster takes exactly loops times exposures times repeats": so many exposures are in its plan.
 abbrev pub RasterTakes : Type 0
-RasterTakes = (raster : RasterWords) → length (exposedAt (rasterPlan raster)) ≡ raster .loops * raster .exposures * raster .repeats
+RasterTakes = (raster : RasterWords) → length (exposedPositions (rasterPlan raster)) ≡ raster .loops * raster .exposures * raster .repeats
 
 -- It is not said of nothing: over any tables of the right sizes 20 and 21 02 take the unit from power-on to MANUAL.
-abbrev pub Applies : Library → Type 0
-Applies L = (seqs lists : List ℕ) → length seqs ≡ 16384 → length lists ≡ 7872
+abbrev pub Applies : Format → Library → Type 0
+Applies F L = (seqs lists : List ℕ) → length seqs ≡ 16384 → length lists ≡ 7872
     → (out out′ : List ℕ) → 16384 ≤ length out → 16384 ≤ length out′ → (time time′ : ℕ)
-    → let v = after L (packet out time (0x20 ∷ [])) (world (L .powersOn) seqs lists) in
+    → let v = after L (packet out time (0x20 ∷ [])) (world {F = F} (L .powersOn) seqs lists) in
     let w = after L (packet out′ time′ (0x21 ∷ 0x02 ∷ [])) v in
     Reached L w × (modeOf w ≡ 2) × (w .seqs ≡ seqs) × (w .lists ≡ lists)
 
 -- Sequence n can be started: the unit was reached from power-on, it is in MANUAL, and n is selected.
-pub record Selected (L : Library) (n : ℕ) (w : World) : Type 0 where
+pub record Selected {F : Format} (L : Library) (n : ℕ) (w : World F) : Type 0 where
   pub reached : Reached L w
   pub manual : modeOf w ≡ 2
   pub selection : w .unit .control .selection ≡ n
-  pub known : n ≤ 127
+  pub known : n ≤ F .last
 
 -- 83 n is obeyed in MANUAL. Sequence n is then selected, over the same tables.
-abbrev pub Selects : Library → Type 0
-Selects L = (w : World) → Reached L w → modeOf w ≡ 2 → (n : ℕ) → n ≤ 127 → (out : List ℕ) → 16384 ≤ length out → (time : ℕ)
+abbrev pub SelectionObeyed : Format → Library → Type 0
+SelectionObeyed F L = (w : World F) → Reached L w → modeOf w ≡ 2 → (n : ℕ) → n ≤ F .last → (out : List ℕ) → 16384 ≤ length out → (time : ℕ)
     → (codeFor L out time (selecting n) w ≡ 0)
     × Selected L n (after L (packet out time (selecting n)) w)
     × (after L (packet out time (selecting n)) w .seqs ≡ w .seqs)
     × (after L (packet out time (selecting n)) w .lists ≡ w .lists)
 
 -- The unit is about to enter sequence n: it was reached from power-on, it runs in AUTO, "entering comes first", and no raster is open.
-pub record AboutToEnter (L : Library) (n : ℕ) (s : World) : Type 0 where
+pub record AboutToEnter {F : Format} (L : Library) (n : ℕ) (s : World F) : Type 0 where
   pub reached : Reached L s
   pub auto : modeOf s ≡ 3
   pub door : AtDoor n (s .unit .runner .mirror) (s .unit .runner)
-  pub known : n ≤ 127
+  pub known : n ≤ F .last
 
 -- 21 03 is then obeyed. The unit is about to enter the selected sequence, over the same tables.
-abbrev pub Starts : Library → Type 0
-Starts L = (n : ℕ) (w : World) → Selected L n w → (out : List ℕ) → 16384 ≤ length out → (time : ℕ)
+abbrev pub Starts : Format → Library → Type 0
+Starts F L = (n : ℕ) (w : World F) → Selected L n w → (out : List ℕ) → 16384 ≤ length out → (time : ℕ)
     → (codeFor L out time starting w ≡ 0)
     × AboutToEnter L n (after L (packet out time starting) w)
     × (after L (packet out time starting) w .seqs ≡ w .seqs)
     × (after L (packet out time starting) w .lists ≡ w .lists)
 
 -- The demand for a unit that is about to enter a sequence, whatever came between the two packets: what the check tells is kept.
-abbrev pub Passed : Library → Type 0
-Passed L = (n : ℕ) (s : World) → AboutToEnter L n s → KeepsPassed L (L .checks (s .seqs) (s .lists) n) s
+abbrev pub Passed : Format → Library → Type 0
+Passed F L = (n : ℕ) (s : World F) → AboutToEnter L n s → KeepsPassed L (L .checks F (s .seqs) (s .lists) n) s
 
-abbrev pub Faulted : Library → Type 0
-Faulted L = (n : ℕ) (s : World) → AboutToEnter L n s → KeepsFaulted L (L .checks (s .seqs) (s .lists) n) s
+abbrev pub Faulted : Format → Library → Type 0
+Faulted F L = (n : ℕ) (s : World F) → AboutToEnter L n s → KeepsFaulted L (L .checks F (s .seqs) (s .lists) n) s
 
 -- A chain that returns goes round for good. After its last command listed the unit is about to enter the sequence m that the last one calls, over
 -- the same tables; what the check tells of m returns too, and lists what comes again: the part of these names from m on. So all of this holds again.
-pub record Again (L : Library) (seqs lists : List ℕ) (n m : ℕ) : Type 0 where
-  pub called : Calling seqs (lastOf 0 (L .checks seqs lists n .names)) m
+pub record Again (F : Format) (L : Library) (seqs lists : List ℕ) (n m : ℕ) : Type 0 where
+  pub called : Calling F seqs (lastOf 0 (L .checks F seqs lists n .names)) m
   pub once : List ℕ
-  pub part : L .checks seqs lists n .names ≡ once ++ L .checks seqs lists m .names
-  pub returns : ComesBack (L .checks seqs lists m .ending)
+  pub part : L .checks F seqs lists n .names ≡ once ++ L .checks F seqs lists m .names
+  pub returns : ComesBack (L .checks F seqs lists m .ending)
 
-abbrev pub Returning : Library → Type 0
-Returning L = (n : ℕ) (s : World) → AboutToEnter L n s → ComesBack (L .checks (s .seqs) (s .lists) n .ending)
-    → (m : ℕ) × Again L (s .seqs) (s .lists) n m
-    × ((acts : List Action) → NeverCalledBack L acts s → length (outcomes L acts s) ≡ L .checks (s .seqs) (s .lists) n .steps
+abbrev pub Returning : Format → Library → Type 0
+Returning F L = (n : ℕ) (s : World F) → AboutToEnter L n s → ComesBack (L .checks F (s .seqs) (s .lists) n .ending)
+    → (m : ℕ) × Again F L (s .seqs) (s .lists) n m
+    × ((acts : List Action) → NeverCalledBack L acts s → length (outcomes L acts s) ≡ L .checks F (s .seqs) (s .lists) n .steps
     → AboutToEnter L m (afterAll L acts s) × (afterAll L acts s .seqs ≡ s .seqs) × (afterAll L acts s .lists ≡ s .lists))
 
 -- In one statement. Whatever is done but a call back, and however far it is stepped on: every step works, so none is an abort or idle; after the
 -- steps told and k times those of the part that comes again, what is seen is the plan of the whole chain and then k times that of the part; in
 -- between it is the beginning of such a plan.
-abbrev pub lapsPlan : List ℕ → List ℕ → List ℕ → ℕ → List Event
-lapsPlan seqs names part k = chainPlan seqs names ++ turns 0 k (λ lap left. chainPlan seqs part)
+abbrev pub lapsPlan : Format → List ℕ → List ℕ → List ℕ → ℕ → List Event
+lapsPlan F seqs names part k = chainPlan F seqs names ++ turns 0 k (λ lap left. chainPlan F seqs part)
 
-pub record GoesRound (seqs : List ℕ) (chain part : Told) (os : List Outcome) : Type 0 where
+pub record GoesRound (F : Format) (seqs : List ℕ) (chain part : Told) (os : List Outcome) : Type 0 where
   pub works : All Works os
-  pub laps : (k : ℕ) → length os ≡ chain .steps + k * part .steps → each landmark (eventsOf os) ≡ lapsPlan seqs (chain .names) (part .names) k
+  pub laps : (k : ℕ) → length os ≡ chain .steps + k * part .steps → fromEach landmark (eventsOf os) ≡ lapsPlan F seqs (chain .names) (part .names) k
   pub under-way : (k : ℕ) → length os ≤ chain .steps + k * part .steps
-      → (rest : List Event) × (each landmark (eventsOf os) ++ rest ≡ lapsPlan seqs (chain .names) (part .names) k)
+      → (rest : List Event) × (fromEach landmark (eventsOf os) ++ rest ≡ lapsPlan F seqs (chain .names) (part .names) k)
 
-abbrev pub EveryLap : Library → Type 0
-EveryLap L = (n : ℕ) (s : World) → AboutToEnter L n s → ComesBack (L .checks (s .seqs) (s .lists) n .ending)
-    → (m : ℕ) × Again L (s .seqs) (s .lists) n m
+abbrev pub EveryLap : Format → Library → Type 0
+EveryLap F L = (n : ℕ) (s : World F) → AboutToEnter L n s → ComesBack (L .checks F (s .seqs) (s .lists) n .ending)
+    → (m : ℕ) × Again F L (s .seqs) (s .lists) n m
     × ((acts : List Action) → NeverCalledBack L acts s
-    → GoesRound (s .seqs) (L .checks (s .seqs) (s .lists) n) (L .checks (s .seqs) (s .lists) m) (outcomes L acts s))
+    → GoesRound F (s .seqs) (L .checks F (s .seqs) (s .lists) n) (L .checks F (s .seqs) (s .lists) m) (outcomes L acts s))

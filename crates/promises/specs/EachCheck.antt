@@ -2,18 +2,19 @@
 -- proof, under its name.
 use Prim.Native.Nat.{ℕ, suc, _+_, _*_, _≤_, _<_}
 use mathlib.Core.Path.{_≡_}
-use mathlib.Core.Bool.{Bool, true, false, cond, _&&_}
+use mathlib.Core.Bool.{Bool, true, false, cond, _&&_, _||_}
 use mathlib.Core.List.{List, [], _∷_, _++_}
 use mathlib.Core.Logic.{_⊎_}
-use lib.Dec.{ltb, leb}
+use lib.Dec.{ltb, leb, eqb}
 use lib.ListN.{length}
 use Rattle.octets.specs.Bytes.{byteAt}
 use Rattle.octets.specs.Rows.{Row, row, NoneHolds, FirstBears}
+use Rattle.memory.specs.declared.Format.{Format}
 use Rattle.memory.specs.Memory.{entryOf, placeAt}
 use Rattle.sequence.specs.declared.Command.{Command}
 use Rattle.sequence.specs.declared.Command.the-variants.{RunRaster, Expose, LoopBack, CallSequence, Terminate, Delay, Nothing, Unknown, Unfit}
-use Rattle.sequence.specs.Text.{headerRows, headerPlace, commandAt, sizeAt, isRunRaster}
-use Rattle.sequence.specs.Starts.{startsOf, among}
+use Rattle.sequence.specs.Text.{headerRows, headerPlace, commandAt, numberOf, sizeAt, isRunRaster}
+use Rattle.sequence.specs.Starts.{startsOf, rastersAmong, among}
 use Rattle.sequence.specs.Raster.{rasterAt}
 use Rattle.sequence.specs.Env.{Env, envOf}
 use Rattle.runner.specs.declared.Opened.{Opened}
@@ -21,36 +22,36 @@ use Rattle.runner.specs.declared.Opened.the-variants.{Shut, Open}
 use Rattle.runner.specs.Judge.{runRows, exposeRows, loopRows, closeRows}
 use Rattle.survey.specs.declared.Ending.{Ending}
 use Rattle.survey.specs.declared.Ending.the-variants.{Unlisted}
-use Rattle.survey.specs.Walk.{oneMore}
+use Rattle.survey.specs.Walk.{count, oneMore}
 use Rattle.survey.specs.Chain.{told}
 use Rattle.promises.specs.Library.{Library, ours}
-use Rattle.promises.specs.Demand3.{rastersAmong, Lists, EndsOrReturns, HasFault}
+use Rattle.promises.specs.Demand3.{Lists, EndsOrReturns, HasFault}
 
 -- ── 1. "Given tables (wrong size: 16) and a sequence number (above 127: 7); either answers with nothing listed and totals 0."
 
 -- What it is given: both tables of the right size, and a sequence number.
-pub record Given (seqs lists : List ℕ) (n : ℕ) : Type 0 where
+pub record Given (F : Format) (seqs lists : List ℕ) (n : ℕ) : Type 0 where
   pub sequences : length seqs ≡ 16384
   pub lineLists : length lists ≡ 7872
-  pub number : n ≤ 127
+  pub number : n ≤ F .last
 
 abbrev pub CheckSixteen : Library → Type 0
-CheckSixteen L = (seqs lists : List ℕ) (n : ℕ) → ((length seqs ≡ 16384) × (length lists ≡ 7872) → ⊥)
-    → L .checks seqs lists n ≡ told [] (Unlisted 16) 0 0
+CheckSixteen L = (F : Format) (seqs lists : List ℕ) (n : ℕ) → ((length seqs ≡ 16384) × (length lists ≡ 7872) → ⊥)
+    → L .checks F seqs lists n ≡ told [] (Unlisted 16) 0 0
 
 abbrev pub CheckSeven : Library → Type 0
-CheckSeven L = (seqs lists : List ℕ) (n : ℕ) → length seqs ≡ 16384 → length lists ≡ 7872 → 127 < n
-    → L .checks seqs lists n ≡ told [] (Unlisted 7) 0 0
+CheckSeven L = (F : Format) (seqs lists : List ℕ) (n : ℕ) → length seqs ≡ 16384 → length lists ≡ 7872 → F .last < n
+    → L .checks F seqs lists n ≡ told [] (Unlisted 7) 0 0
 
 -- ── 2. "It applies these rules in text order to each sequence"
 
 -- The rules for the command at a place, by ordered rows (runner/specs/Judge), where o is the raster that the commands before it leave open. The
 -- check has no rounds: it takes a call above 127 as the last round does.
 abbrev pub rulesFor : Env → List ℕ → ℕ → Opened → Command → List Row
-rulesFor E text p o RunRaster = runRows E text p o
+rulesFor E text p o RunRaster = runRows (E .cards) text p o
 rulesFor E text p o (Expose time) = exposeRows text time o
 rulesFor E text p o (LoopBack target) = loopRows text p target o
-rulesFor E text p o (CallSequence n) = closeRows text p o ++ (row 4 (ltb (E .last) n) ∷ [])
+rulesFor E text p o (CallSequence n) = closeRows text p o ++ (row 4 (ltb (E .format .last) n) ∷ [])
 rulesFor E text p o Terminate = closeRows text p o
 rulesFor E text p o (Delay time) = []
 rulesFor E text p o Nothing = row 3 true ∷ []
@@ -61,33 +62,25 @@ abbrev pub rulesAt : Env → List ℕ → ℕ → Opened → List Row
 rulesAt E text p o = rulesFor E text p o (commandAt text p)
 
 -- The raster that is open after the command at p: a run raster opens one, an expose is one exposure more in it, a loop back closes it.
-abbrev pub openAfter : ℕ → Opened → Command → Opened
-openAfter p o RunRaster = Open (placeAt p) 0
-openAfter p o (Expose time) = oneMore o
-openAfter p o (LoopBack target) = Shut
-openAfter p o (CallSequence n) = o
-openAfter p o Terminate = o
-openAfter p o (Delay time) = o
-openAfter p o Nothing = o
-openAfter p o Unknown = o
-openAfter p o Unfit = o
+abbrev pub openAfter : List ℕ → ℕ → Opened → Command → Opened
+openAfter text p o RunRaster = Open (placeAt p) 0 (rasterAt text p .repeats)
+openAfter text p o (Expose time) = oneMore o
+openAfter text p o (LoopBack target) = Shut
+openAfter text p o (CallSequence n) = o
+openAfter text p o Terminate = o
+openAfter text p o (Delay time) = o
+openAfter text p o Nothing = o
+openAfter text p o Unknown = o
+openAfter text p o Unfit = o
 
 abbrev pub isClosing : Command → Bool
-isClosing RunRaster = false
-isClosing (Expose time) = false
-isClosing (LoopBack target) = false
-isClosing (CallSequence n) = true
-isClosing Terminate = true
-isClosing (Delay time) = false
-isClosing Nothing = false
-isClosing Unknown = false
-isClosing Unfit = false
+isClosing command = eqb (numberOf command) 0x93 || eqb (numberOf command) 0x94
 
 -- In text order: from p on, with o open, each command passes the rules and none is the closing one, up to the place q, where o′ is open.
 pub data UpTo (E : Env) (text : List ℕ) (q : ℕ) (o′ : Opened) : ℕ → Opened → Type 0 where
   there : UpTo E text q o′ q o′
   next : {p : ℕ} {o : Opened} → isClosing (commandAt text p) ≡ false → NoneHolds (rulesAt E text p o)
-      → UpTo E text q o′ (p + sizeAt text p) (openAfter p o (commandAt text p)) → UpTo E text q o′ p o
+      → UpTo E text q o′ (p + sizeAt text p) (openAfter text p o (commandAt text p)) → UpTo E text q o′ p o
 
 -- A sequence passes the rules: its header does, and its commands do from place 4 on through the closing one.
 pub record Passes (E : Env) (text : List ℕ) : Type 0 where
@@ -113,35 +106,22 @@ abbrev pub FaultIn : ℕ → Ending → Type 0
 FaultIn n ending = (code : ℕ) × (place : ℕ) × HasFault code n place ending
 
 abbrev pub RulesApplied : Library → Type 0
-RulesApplied L = (seqs lists : List ℕ) (n : ℕ) → Given seqs lists n
-    → let t = L .checks seqs lists n in
-    ((m : ℕ) → among m (t .names) ≡ true → Passes (envOf lists) (entryOf seqs m) ⊎ FaultIn m (t .ending))
-    × ((code m place : ℕ) → HasFault code m place (t .ending) → Breaks (envOf lists) (entryOf seqs m) code place)
+RulesApplied L = (F : Format) (seqs lists : List ℕ) (n : ℕ) → Given F seqs lists n
+    → let t = L .checks F seqs lists n in
+    ((m : ℕ) → among m (t .names) ≡ true → Passes (envOf F lists) (entryOf F seqs m) ⊎ FaultIn m (t .ending))
+    × ((code m place : ℕ) → HasFault code m place (t .ending) → Breaks (envOf F lists) (entryOf F seqs m) code place)
 
 -- ── 3. "Follows the call, and ends at terminate or at a sequence already listed. The check names the chain's sequences in order, says whether it
 -- ends or returns, .. A fault gives sequence, place, code, the chain through that sequence, and totals 0."
 
 -- Lists (Demand3) is just this.
 abbrev pub CallsFollowed : Library → Type 0
-CallsFollowed L = (seqs lists : List ℕ) (n : ℕ) → Given seqs lists n → Lists seqs n (L .checks seqs lists n)
+CallsFollowed L = (F : Format) (seqs lists : List ℕ) (n : ℕ) → Given F seqs lists n → Lists F seqs n (L .checks F seqs lists n)
 
 -- ── 4. "And gives exposures and steps over the listed ones once each."
 
--- How many of these places have it.
-abbrev pub count : (ℕ → Bool) → List ℕ → ℕ
-count has [] = 0
-count has (p ∷ ps) = cond (has p) (suc (count has ps)) (count has ps)
-
 abbrev pub isLoopBack : Command → Bool
-isLoopBack RunRaster = false
-isLoopBack (Expose time) = false
-isLoopBack (LoopBack target) = true
-isLoopBack (CallSequence n) = false
-isLoopBack Terminate = false
-isLoopBack (Delay time) = false
-isLoopBack Nothing = false
-isLoopBack Unknown = false
-isLoopBack Unfit = false
+isLoopBack command = eqb (numberOf command) 0x92
 
 -- "Commands outside rasters", among the commands at these places: a raster is from its run raster through the loop back after it. The second
 -- argument says whether the first of these places is in a raster.
@@ -188,18 +168,18 @@ abbrev pub exposuresOfSequence : List ℕ → ℕ
 exposuresOfSequence text = byteAt text 3 * exposuresOfRasters text (rastersAmong text (startsOf text))
 
 -- The sum over these sequences, once each.
-abbrev pub sumOver : (List ℕ → ℕ) → List ℕ → List ℕ → ℕ
-sumOver f seqs [] = 0
-sumOver f seqs (n ∷ ns) = f (entryOf seqs n) + sumOver f seqs ns
+abbrev pub sumOver : Format → (List ℕ → ℕ) → List ℕ → List ℕ → ℕ
+sumOver F f seqs [] = 0
+sumOver F f seqs (n ∷ ns) = f (entryOf F seqs n) + sumOver F f seqs ns
 
 abbrev pub TotalsTold : Library → Type 0
-TotalsTold L = (seqs lists : List ℕ) (n : ℕ) → Given seqs lists n
-    → let t = L .checks seqs lists n in
-    EndsOrReturns (t .ending) → (t .steps ≡ sumOver stepsOfSequence seqs (t .names)) × (t .exposures ≡ sumOver exposuresOfSequence seqs (t .names))
+TotalsTold L = (F : Format) (seqs lists : List ℕ) (n : ℕ) → Given F seqs lists n
+    → let t = L .checks F seqs lists n in
+    EndsOrReturns (t .ending) → (t .steps ≡ sumOver F stepsOfSequence seqs (t .names)) × (t .exposures ≡ sumOver F exposuresOfSequence seqs (t .names))
 
 -- ── 5. Nothing else fits these sentences
 
 -- A check that keeps them all tells what ours tells, of all tables and numbers: each of the five says a part of it.
 abbrev pub SentencesDecide : Type 0
 SentencesDecide = (L : Library) → CheckSixteen L → CheckSeven L → RulesApplied L → CallsFollowed L → TotalsTold L
-    → (seqs lists : List ℕ) (n : ℕ) → L .checks seqs lists n ≡ ours .checks seqs lists n
+    → (F : Format) (seqs lists : List ℕ) (n : ℕ) → L .checks F seqs lists n ≡ ours .checks F seqs lists n

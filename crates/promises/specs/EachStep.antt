@@ -18,7 +18,7 @@ use Rattle.runner.specs.declared.Opened.the-variants.{Open}
 use Rattle.runner.specs.Judge.{isOpen, setOf}
 use Rattle.runner.specs.Events.{Shown, shows, shownAs}
 use Rattle.runner.specs.Step.{openOf}
-use Rattle.runner.specs.With.{withSequence, withPlace, withRunning, withEntering, withRaster, withCount, withPasses, withRepeats, withRounds, withMirror}
+use Rattle.runner.specs.With.{withSequence, withPlace, withRunning, withEntering, withRaster, withRounds, withMirror, openAt, withCount, withPasses, withRepeats}
 use Rattle.unit.specs.declared.Watch.{Watch}
 use Rattle.unit.specs.Step.{watched}
 use Rattle.promises.specs.Library.{Library}
@@ -39,7 +39,7 @@ pub record Obeys (E : Env) (seqs : List ℕ) (s : Runner) (k : Command) : Type 0
   pub accepted : NoneHolds (commandRows E (here E seqs s) s k)
 
 -- A step shows this: the paper's word, number and values for its event (runner/specs/Events), with the status count after it. And it leaves this
--- runner: below, `withX .. (withY .. s)` is the runner s with X and Y changed, and nothing else.
+-- runner: below, `withX .. (withY .. s)` is the runner s with X and Y changed, and nothing else; so of its open raster.
 pub record Takes (r : Stepped) (seen : ℕ → Shown) (left : Runner) : Type 0 where
   pub shows : (count : ℕ) → shownAs count (r .event) ≡ seen count
   pub leaves : r .runner ≡ left
@@ -56,41 +56,38 @@ RasterStep L = (E : Env) (seqs : List ℕ) (s : Runner) → Obeys E seqs s RunRa
     → let raster = rasterAt (here E seqs s) (s .place) in
     Takes (L .runs E seqs s) (λ count. shows "RASTER" 2 (raster .id ∷ raster .initial ∷ []))
     (withPlace (next E seqs s)
-    (withRaster (s .place)
-    (withCount 0
-    (withPasses (raster .loops)
-    (withRepeats (cond (isOpen (openOf s)) (s .repeats) (raster .repeats))
-    (withMirror (raster .initial) s))))))
+    (withRaster (record { place = s .place; count = 0; passes = raster .loops; repeats = cond (isOpen (openOf (E .format) s)) (s .raster .repeats) (raster .repeats) })
+    (withMirror (raster .initial) s)))
     × ((w : Watch) → watched (L .runs E seqs s .event) w .list ≡ raster .list)
 
 -- "Expose": one exposure more in the set, where the mirror stands. "When this fills the set and passes remain, the mirror advances one step
 -- after it": then and only then.
 abbrev pub ExposeAdvances : Library → Type 0
-ExposeAdvances L = (E : Env) (seqs : List ℕ) (s : Runner) (time : ℕ) (r : Place) (c : ℕ) → Obeys E seqs s (Expose time) → openOf s ≡ Open r c
+ExposeAdvances L = (E : Env) (seqs : List ℕ) (s : Runner) (time : ℕ) (r : Place) (c n : ℕ) → Obeys E seqs s (Expose time) → openOf (E .format) s ≡ Open r c n
     → let raster = rasterAt (here E seqs s) (r .0) in
-    1 < s .passes → s .count + 1 ≡ setOf raster
-    → Takes (L .runs E seqs s) (λ count. shows "EXP" 3 (count ∷ s .mirror ∷ [])) (withPlace (next E seqs s) (withCount (s .count + 1) (withMirror (s .mirror + raster .step) s)))
+    1 < s .raster .passes → s .raster .count + 1 ≡ setOf raster
+    → Takes (L .runs E seqs s) (λ count. shows "EXP" 3 (count ∷ s .mirror ∷ [])) (withPlace (next E seqs s) (withRaster (withCount (s .raster .count + 1) (s .raster)) (withMirror (s .mirror + raster .step) s)))
 
 abbrev pub ExposeStays : Library → Type 0
-ExposeStays L = (E : Env) (seqs : List ℕ) (s : Runner) (time : ℕ) (r : Place) (c : ℕ) → Obeys E seqs s (Expose time) → openOf s ≡ Open r c
+ExposeStays L = (E : Env) (seqs : List ℕ) (s : Runner) (time : ℕ) (r : Place) (c n : ℕ) → Obeys E seqs s (Expose time) → openOf (E .format) s ≡ Open r c n
     → let raster = rasterAt (here E seqs s) (r .0) in
-    (1 < s .passes → s .count + 1 ≡ setOf raster → ⊥)
-    → Takes (L .runs E seqs s) (λ count. shows "EXP" 3 (count ∷ s .mirror ∷ [])) (withPlace (next E seqs s) (withCount (s .count + 1) s))
+    (1 < s .raster .passes → s .raster .count + 1 ≡ setOf raster → ⊥)
+    → Takes (L .runs E seqs s) (λ count. shows "EXP" 3 (count ∷ s .mirror ∷ [])) (withPlace (next E seqs s) (withRaster (withCount (s .raster .count + 1) (s .raster)) s))
 
 -- "Loop back: .. Passes left: jump, new set." A count left includes the one under way.
 abbrev pub LoopJumps : Library → Type 0
-LoopJumps L = (E : Env) (seqs : List ℕ) (s : Runner) (target : ℕ) → Obeys E seqs s (LoopBack target) → 1 < s .passes
-    → Takes (L .runs E seqs s) (λ count. shows "LOOP" 4 (target ∷ [])) (withPlace target (withCount 0 (withPasses (s .passes - 1) s)))
+LoopJumps L = (E : Env) (seqs : List ℕ) (s : Runner) (target : ℕ) → Obeys E seqs s (LoopBack target) → 1 < s .raster .passes
+    → Takes (L .runs E seqs s) (λ count. shows "LOOP" 4 (target ∷ [])) (withPlace target (withRaster (withCount 0 (withPasses (s .raster .passes - 1) (s .raster))) s))
 
 -- "Else repeats left: one fewer, jump to the run raster."
 abbrev pub LoopRepeats : Library → Type 0
-LoopRepeats L = (E : Env) (seqs : List ℕ) (s : Runner) (target : ℕ) → Obeys E seqs s (LoopBack target) → s .passes ≤ 1 → 1 < s .repeats
-    → Takes (L .runs E seqs s) (λ count. shows "NEXT" 5 []) (withPlace (s .raster) (withRepeats (s .repeats - 1) s))
+LoopRepeats L = (E : Env) (seqs : List ℕ) (s : Runner) (target : ℕ) → Obeys E seqs s (LoopBack target) → s .raster .passes ≤ 1 → 1 < s .raster .repeats
+    → Takes (L .runs E seqs s) (λ count. shows "NEXT" 5 []) (withPlace (s .raster .place) (withRaster (withRepeats (s .raster .repeats - 1) (s .raster)) s))
 
 -- "Else the raster closes."
 abbrev pub LoopCloses : Library → Type 0
-LoopCloses L = (E : Env) (seqs : List ℕ) (s : Runner) (target : ℕ) → Obeys E seqs s (LoopBack target) → s .passes ≤ 1 → s .repeats ≤ 1
-    → Takes (L .runs E seqs s) (λ count. shows "DONE" 6 []) (withPlace (next E seqs s) (withRaster 255 s))
+LoopCloses L = (E : Env) (seqs : List ℕ) (s : Runner) (target : ℕ) → Obeys E seqs s (LoopBack target) → s .raster .passes ≤ 1 → s .raster .repeats ≤ 1
+    → Takes (L .runs E seqs s) (λ count. shows "DONE" 6 []) (withPlace (next E seqs s) (withRaster (openAt 255 (s .raster)) s))
 
 -- "Delay (word, any)": it is shown, and the next command comes.
 abbrev pub DelayStep : Library → Type 0

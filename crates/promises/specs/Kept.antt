@@ -1,4 +1,4 @@
--- What the table check promises of a runner that stands at the door of the chain's first sequence.
+-- For the proofs of demand 3, what the table check promises of a runner that stands at the door of the chain's first sequence.
 use Prim.Native.Nat.{ℕ, _≤_}
 use mathlib.Core.Path.{_≡_}
 use mathlib.Core.Bool.{true, false}
@@ -9,7 +9,7 @@ use Rattle.sequence.specs.Env.{Env}
 use Rattle.runner.specs.declared.Runner.{Runner}
 use Rattle.runner.specs.declared.Sight.{Sight}
 use Rattle.survey.specs.declared.Ending.{Ending}
-use Rattle.survey.specs.declared.Ending.the-variants.{Unlisted, Finishes, Returns, Faulty}
+use Rattle.survey.specs.declared.Ending.the-variants.{Unlisted, Finishes, Returns, Faults}
 use Rattle.survey.specs.Chain.{Told}
 use Rattle.promises.specs.Runs.{positionsSeen, Run, Aborts, AtDoor}
 use Rattle.promises.specs.Positions.{chainPositions, NonePast}
@@ -25,19 +25,19 @@ pub record Ran (E : Env) (seqs : List ℕ) (sights : List Sight) (names : List �
   pub inReach : NonePast 2400 (chainPositions E seqs names)
   pub leaves : Leaves last
 
-abbrev pub Stopped : Runner → Type 0
-Stopped s = s .running ≡ false
+abbrev pub AtRest : Runner → Type 0
+AtRest s = s .running ≡ false
 
 -- at the door of a sequence that is listed
 abbrev pub Back : Env → List ℕ → Runner → Type 0
-Back E names s = (n : ℕ) × (m : ℕ) × (n ≤ E .last) × (among n names ≡ true) × AtDoor n m s
+Back E names s = (n : ℕ) × (m : ℕ) × (n ≤ E .format .last) × (among n names ≡ true) × AtDoor n m s
 
 -- a chain that ends or returns runs as it is told; at a fault the run aborts there and not before
 abbrev pub KeptBy : Env → List ℕ → Told → Runner → Ending → Type 0
 KeptBy E seqs t s (Unlisted code) = ⊥
-KeptBy E seqs t s Finishes = (sights : List Sight) × Ran E seqs sights (t .names) (t .steps) (t .exposures) Stopped s
+KeptBy E seqs t s Finishes = (sights : List Sight) × Ran E seqs sights (t .names) (t .steps) (t .exposures) AtRest s
 KeptBy E seqs t s Returns = (sights : List Sight) × Ran E seqs sights (t .names) (t .steps) (t .exposures) (Back E (t .names)) s
-KeptBy E seqs t s (Faulty code n p) = Aborts E seqs code n p s
+KeptBy E seqs t s (Faults n fault) = Aborts E seqs n fault s
 
 abbrev pub Kept : Env → List ℕ → Told → Runner → Type 0
 Kept E seqs t s = KeptBy E seqs t s (t .ending)
@@ -47,4 +47,4 @@ abbrev pub IsPassed : Ending → Type 0
 IsPassed (Unlisted code) = ⊥
 IsPassed Finishes = Unit {0}
 IsPassed Returns = Unit {0}
-IsPassed (Faulty code n p) = ⊥
+IsPassed (Faults n fault) = ⊥

@@ -2,6 +2,7 @@
 -- that ours keeps every demand; Refuted has the wrong libraries that document 01 names, and what each of them does not keep.
 use Prim.Native.Nat.{ℕ}
 use mathlib.Core.List.{List}
+use Rattle.memory.specs.declared.Format.{Format}
 use Rattle.memory.specs.Memory.{windowCode, windowPart}
 use Rattle.sequence.specs.Env.{Env}
 use Rattle.runner.specs.declared.Runner.{Runner}
@@ -18,18 +19,18 @@ use Rattle.unit.specs.Step.{unitStep}
 pub record Library : Type 0 where
   -- the unit at power-on
   pub powersOn : ControlUnit
-  -- what a packet is answered, from the unit, the time, both tables, the output and the packet's bytes: the code, how many bytes, the unit after it
-  pub answers : ControlUnit → ℕ → List ℕ → List ℕ → List ℕ → List ℕ → Answer
+  -- what a packet is answered, from the format of the tables, the unit, the time, both tables, the output and the packet's bytes: the code, how many bytes, the unit after it
+  pub answers : Format → ControlUnit → ℕ → List ℕ → List ℕ → List ℕ → List ℕ → Answer
   -- what it leaves in the sequence table, in the line lists and in the output
-  pub seqsLeft : ControlUnit → List ℕ → List ℕ → List ℕ → List ℕ → List ℕ
-  pub listsLeft : ControlUnit → List ℕ → List ℕ → List ℕ → List ℕ → List ℕ
-  pub outLeft : ControlUnit → ℕ → List ℕ → List ℕ → List ℕ → List ℕ → List ℕ
+  pub seqsLeft : Format → ControlUnit → List ℕ → List ℕ → List ℕ → List ℕ → List ℕ
+  pub listsLeft : Format → ControlUnit → List ℕ → List ℕ → List ℕ → List ℕ → List ℕ
+  pub outLeft : Format → ControlUnit → ℕ → List ℕ → List ℕ → List ℕ → List ℕ → List ℕ
   -- a step of the unit over both tables: what is seen of it, and the unit after it
-  pub steps : ControlUnit → List ℕ → List ℕ → UnitStep
+  pub steps : Format → ControlUnit → List ℕ → List ℕ → UnitStep
   -- the interpreter's step in it
   pub runs : Env → List ℕ → Runner → Stepped
-  -- what the check tells of the chain that begins at a sequence: its names, how it ends, its steps and its exposures
-  pub checks : List ℕ → List ℕ → ℕ → Told
+  -- what the check tells of the chain that begins at a sequence, in tables of a format: its names, how it ends, its steps and its exposures
+  pub checks : Format → List ℕ → List ℕ → ℕ → Told
   -- what the desk is answered that asks both tables for an address and a length: the code, and the part that it is handed
   pub windowCode : List ℕ → List ℕ → ℕ → ℕ → ℕ
   pub windowPart : List ℕ → List ℕ → ℕ → ℕ → List ℕ

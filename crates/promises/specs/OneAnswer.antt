@@ -12,6 +12,7 @@ use denote.Triple.Clauses.{AtExit}
 use borrow.Fn.Kinds.{PK, RK, Out, Dens, resT, endedOf}
 use Rattle.octets.proofs as octets
 use Rattle.memory.proofs as memory
+use Rattle.memory.specs.declared.Format.{Format}
 use Rattle.memory.specs.declared.Placed.{Placed}
 use Rattle.memory.specs.declared.Addressed.{Addressed}
 use Rattle.memory.specs.declared.Range.{Range}
@@ -19,7 +20,7 @@ use Rattle.sequence.proofs as sequence
 use Rattle.sequence.specs.declared.Header.{Header}
 use Rattle.sequence.specs.declared.Command.{Command}
 use Rattle.sequence.specs.declared.RasterWords.{RasterWords}
-use Rattle.sequence.specs.declared.ListTest.{ListTest}
+use Rattle.sequence.specs.declared.ListCard.{ListCard}
 use Rattle.runner.proofs as runner
 use Rattle.runner.specs.declared.Act.{Act}
 use Rattle.runner.specs.declared.Stepped.{Stepped}
@@ -32,7 +33,7 @@ use Rattle.line.specs.declared.Line.{Line}
 use Rattle.line.specs.declared.Numeral.{Numeral}
 use Rattle.keel.proofs as keel
 use Rattle.unit.specs.declared.Unit.{Unit as ControlUnit}
-use Rattle.unit.specs.declared.Kind.{Kind}
+use Rattle.unit.specs.declared.Telecommand.{Telecommand}
 use Rattle.unit.specs.declared.Answer.{Answer}
 use Rattle.unit.specs.declared.UnitStep.{UnitStep}
 
@@ -71,6 +72,9 @@ abbrev pub OneOctetsEither : Type 0
 OneOctetsEither = One Bool octets.either.Kinds.ps octets.either.Kinds.r octets.either.Reads.Learnt (λ κs r e. r)
 
 -- ── memory
+abbrev pub OneMemoryFormatFlight : Type 0
+OneMemoryFormatFlight = One Format memory.Format.flight.Kinds.ps memory.Format.flight.Kinds.r memory.Format.flight.Reads.Learnt (λ κs r e. r)
+
 abbrev pub OneMemoryPlaceOf : Type 0
 OneMemoryPlaceOf = One Placed memory.Place.of.Kinds.ps memory.Place.of.Kinds.r memory.Place.of.Reads.Learnt (λ κs r e. r)
 
@@ -165,8 +169,8 @@ OneSequenceStepAt = One ℕ sequence.step_at.Kinds.ps sequence.step_at.Kinds.r s
 abbrev pub OneSequenceFlagsGood : Type 0
 OneSequenceFlagsGood = One Bool sequence.flags_good.Kinds.ps sequence.flags_good.Kinds.r sequence.flags_good.Reads.Learnt (λ κs r e. r)
 
-abbrev pub OneSequenceListTest : Type 0
-OneSequenceListTest = One ListTest sequence.list_test.Kinds.ps sequence.list_test.Kinds.r sequence.list_test.Reads.Learnt (λ κs r e. r)
+abbrev pub OneSequenceListCard : Type 0
+OneSequenceListCard = One ListCard sequence.list_card.Kinds.ps sequence.list_card.Kinds.r sequence.list_card.Reads.Learnt (λ κs r e. r)
 
 abbrev pub OneSequencePast : Type 0
 OneSequencePast = One ℕ sequence.past.Kinds.ps sequence.past.Kinds.r sequence.past.Reads.Learnt (λ κs r e. r)
@@ -195,14 +199,14 @@ OneUnitUnitPowerOn = One ControlUnit unit.Unit.power_on.Kinds.ps unit.Unit.power
 abbrev pub OneUnitUnitOutOfRange : Type 0
 OneUnitUnitOutOfRange = One Bool unit.Unit.out_of_range.Kinds.ps unit.Unit.out_of_range.Kinds.r unit.Unit.out_of_range.Reads.Learnt (λ κs r e. r)
 
-abbrev pub OneUnitKindOf : Type 0
-OneUnitKindOf = One Kind unit.kind_of.Kinds.ps unit.kind_of.Kinds.r unit.kind_of.Reads.Learnt (λ κs r e. r)
+abbrev pub OneUnitTelecommandOf : Type 0
+OneUnitTelecommandOf = One Telecommand unit.telecommand_of.Kinds.ps unit.telecommand_of.Kinds.r unit.telecommand_of.Reads.Learnt (λ κs r e. r)
 
 abbrev pub OneUnitLentWrong : Type 0
 OneUnitLentWrong = One Bool unit.lent_wrong.Kinds.ps unit.lent_wrong.Kinds.r unit.lent_wrong.Reads.Learnt (λ κs r e. r)
 
 abbrev pub OneUnitUnitPacket : Type 0
-OneUnitUnitPacket = One (Answer × List ℕ × List ℕ × List ℕ) unit.Unit.packet.Kinds.ps unit.Unit.packet.Kinds.r unit.Unit.packet.Reads.Learnt (λ κs r (_, (seqs, (lists, (out, _)))). (r, now seqs, now lists, now out))
+OneUnitUnitPacket = One (Answer × List ℕ × List ℕ × List ℕ) unit.Unit.packet.Kinds.ps unit.Unit.packet.Kinds.r unit.Unit.packet.Reads.Learnt (λ κs r (_, (_, (seqs, (lists, (out, _))))). (r, now seqs, now lists, now out))
 
 abbrev pub OneUnitWindowCode : Type 0
 OneUnitWindowCode = One ℕ unit.window_code.Kinds.ps unit.window_code.Kinds.r unit.window_code.Reads.Learnt (λ κs r e. r)

@@ -1,27 +1,23 @@
--- What the theorems ask of a kind of table, and the range that a step keeps.
-use Prim.Native.Nat.{_≤_}
+-- For the proofs of demand 3, the range that a step keeps.
+use Prim.Native.Nat.{_≤_, _<_}
 use mathlib.Core.Path.{_≡_}
 use mathlib.Core.Bool.{true}
 use mathlib.Core.Logic.{_⊎_}
-use Rattle.sequence.specs.Env.{Env}
+use Rattle.memory.specs.declared.Format.{Format}
 use Rattle.runner.specs.declared.Runner.{Runner}
 use Rattle.runner.specs.declared.Stepped.{Stepped}
 use Rattle.runner.specs.declared.Event.{Event}
 use Rattle.runner.specs.declared.Event.the-variants.{Idle, Enter, Raster, Exp, Loop, Next, Done, Wait, Call, End, Abort}
 
--- every place of an entry is a place
-pub record Fair (E : Env) : Type 0 where
-  pub size : E .size ≤ 128
-
 -- "sequence .. above 127 (unless none), place or open raster's place above 127, .. mirror above 2400, exposures in the set above 8, or
 -- running .. with .. status sequence none"; 255 is none
-pub record InRange (E : Env) (s : Runner) : Type 0 where
-  pub sequence : (s .sequence ≤ E .last) ⊎ (s .sequence ≡ 255)
-  pub place : s .place ≤ 127
-  pub raster : (s .raster ≤ 127) ⊎ (s .raster ≡ 255)
-  pub count : s .count ≤ 8
+pub record RunnerInRange (F : Format) (s : Runner) : Type 0 where
+  pub sequence : (s .sequence ≤ F .last) ⊎ (s .sequence ≡ 255)
+  pub place : s .place < F .size
+  pub raster : (s .raster .place < F .size) ⊎ (s .raster .place ≡ 255)
+  pub count : s .raster .count ≤ 8
   pub mirror : s .mirror ≤ 2400
-  pub known : s .running ≡ true → s .sequence ≤ E .last
+  pub known : s .running ≡ true → s .sequence ≤ F .last
 
 -- what the status takes from an event: "line list above 47", "abort code above 15"; and no position is past 2400
 abbrev pub Shows : Event → Type 0
@@ -37,5 +33,5 @@ Shows (Call n) = Unit {0}
 Shows End = Unit {0}
 Shows (Abort code n place) = code ≤ 15
 
-abbrev pub StepInRange : Env → Stepped → Type 0
-StepInRange E r = InRange E (r .runner) × Shows (r .event)
+abbrev pub StepInRange : Format → Stepped → Type 0
+StepInRange F r = RunnerInRange F (r .runner) × Shows (r .event)

@@ -5,8 +5,10 @@ use mathlib.Core.Path.{_≡_}
 use mathlib.Core.Bool.{true, false, cond}
 use mathlib.Core.List.{List, [], _∷_}
 use lib.Dec.{eqb}
-use Rattle.memory.specs.Memory.{entryOf}
-use Rattle.sequence.specs.declared.ListTest.the-variants.{Good}
+use Rattle.memory.specs.declared.Format.{Format}
+use Rattle.memory.specs.Memory.{flight, entryOf}
+use Rattle.sequence.specs.declared.ListCard.the-variants.{Good}
+use Rattle.sequence.specs.Text.{fault}
 use Rattle.sequence.specs.Raster.{rasterAt}
 use Rattle.sequence.specs.Env.{Env}
 use Rattle.runner.specs.declared.Runner.{Runner}
@@ -16,7 +18,8 @@ use Rattle.runner.specs.Events.{shows}
 use Rattle.runner.specs.Step.{to}
 use Rattle.runner.specs.With.{withRunning, withMirror}
 use Rattle.survey.specs.declared.Ending.{Ending}
-use Rattle.survey.specs.declared.Ending.the-variants.{Finishes, Faulty}
+use Rattle.survey.specs.declared.Ending.the-variants.{Finishes, Faults}
+use Rattle.survey.specs.Walk.{findingOf}
 use Rattle.survey.specs.Chain.{Told, told, chainOf}
 use Rattle.unit.specs.declared.Unit.{Unit as ControlUnit}
 use Rattle.unit.specs.declared.Answer.{Answer}
@@ -30,9 +33,9 @@ use Rattle.promises.specs.EachStep.{EnterStep, CallMade}
 use Rattle.promises.specs.Demand3.{World, Reached, modeOf, EndsOrReturns, HasFault, Demand3}
 
 -- Our library with these six functions in the place of ours: the answers, the two tables left, the unit's step, the interpreter's step, the check.
-abbrev pub changed : (ControlUnit → ℕ → List ℕ → List ℕ → List ℕ → List ℕ → Answer)
-    → (ControlUnit → List ℕ → List ℕ → List ℕ → List ℕ → List ℕ) → (ControlUnit → List ℕ → List ℕ → List ℕ → List ℕ → List ℕ)
-    → (ControlUnit → List ℕ → List ℕ → UnitStep) → (Env → List ℕ → Runner → Stepped) → (List ℕ → List ℕ → ℕ → Told) → Library
+abbrev pub changed : (Format → ControlUnit → ℕ → List ℕ → List ℕ → List ℕ → List ℕ → Answer)
+    → (Format → ControlUnit → List ℕ → List ℕ → List ℕ → List ℕ → List ℕ) → (Format → ControlUnit → List ℕ → List ℕ → List ℕ → List ℕ → List ℕ)
+    → (Format → ControlUnit → List ℕ → List ℕ → UnitStep) → (Env → List ℕ → Runner → Stepped) → (Format → List ℕ → List ℕ → ℕ → Told) → Library
 changed answers seqsLeft listsLeft steps runs checks =
     record {
       powersOn = ours .powersOn;
@@ -48,37 +51,37 @@ changed answers seqsLeft listsLeft steps runs checks =
     }
 
 -- With other answers alone; with other tables left; with another step of the unit, or of the interpreter; with another check.
-abbrev pub withAnswers : (ControlUnit → ℕ → List ℕ → List ℕ → List ℕ → List ℕ → Answer) → Library
+abbrev pub withAnswers : (Format → ControlUnit → ℕ → List ℕ → List ℕ → List ℕ → List ℕ → Answer) → Library
 withAnswers f = changed f (ours .seqsLeft) (ours .listsLeft) (ours .steps) (ours .runs) (ours .checks)
 
-abbrev pub withTables : (ControlUnit → List ℕ → List ℕ → List ℕ → List ℕ → List ℕ) → (ControlUnit → List ℕ → List ℕ → List ℕ → List ℕ → List ℕ) → Library
+abbrev pub withTables : (Format → ControlUnit → List ℕ → List ℕ → List ℕ → List ℕ → List ℕ) → (Format → ControlUnit → List ℕ → List ℕ → List ℕ → List ℕ → List ℕ) → Library
 withTables f g = changed (ours .answers) f g (ours .steps) (ours .runs) (ours .checks)
 
-abbrev pub withSteps : (ControlUnit → List ℕ → List ℕ → UnitStep) → Library
+abbrev pub withSteps : (Format → ControlUnit → List ℕ → List ℕ → UnitStep) → Library
 withSteps f = changed (ours .answers) (ours .seqsLeft) (ours .listsLeft) f (ours .runs) (ours .checks)
 
 abbrev pub withRuns : (Env → List ℕ → Runner → Stepped) → Library
 withRuns f = changed (ours .answers) (ours .seqsLeft) (ours .listsLeft) (ours .steps) f (ours .checks)
 
-abbrev pub withCheck : (List ℕ → List ℕ → ℕ → Told) → Library
+abbrev pub withCheck : (Format → List ℕ → List ℕ → ℕ → Told) → Library
 withCheck f = changed (ours .answers) (ours .seqsLeft) (ours .listsLeft) (ours .steps) (ours .runs) f
 
 -- ── 1. Demand 2, acceptance: "a unit that refuses all packets"
 
 abbrev pub RefusesAll : Library → Type 0
-RefusesAll L = (s : Sent) → 0 < code L s
+RefusesAll L = (s : Sent flight) → 0 < code L s
 
 abbrev pub RefusingFails : Type 0
-RefusingFails = (L : Library) → RefusesAll L → (AcceptedExactly L → ⊥) × (ObeyedExactly L → ⊥)
+RefusingFails = (L : Library) → RefusesAll L → (AcceptedExactly flight L → ⊥) × (ObeyedExactly flight L → ⊥)
 
 -- ── 2. Demand 2: "an uplink that writes nothing"
 
 -- No packet changes a table. Such a library refuses a packet that is to be obeyed, or obeys an uplink without its effect.
 abbrev pub WritesNothing : Library → Type 0
-WritesNothing L = (s : Sent) → TablesKept L s
+WritesNothing L = (s : Sent flight) → TablesKept L s
 
 abbrev pub WritingNothingFails : Type 0
-WritingNothingFails = (L : Library) → WritesNothing L → ObeyedExactly L → EffectE7 L → ⊥
+WritingNothingFails = (L : Library) → WritesNothing L → ObeyedExactly flight L → EffectE7 flight L → ⊥
 
 -- ── 3. Demand 2, each step
 
@@ -91,7 +94,7 @@ IdlingFails = (L : Library) → AlwaysIdle L → (IdleExactly L → ⊥) × (Ent
 
 -- the same of the unit's own step, which shows what the interpreter's does
 abbrev pub UnitIdlingFails : Type 0
-UnitIdlingFails = (L : Library) → ((u : ControlUnit) (seqs lists : List ℕ) → Showing (L .steps u seqs lists .outcome) idle) → StepTakes L → EnterStep L → ⊥
+UnitIdlingFails = (L : Library) → ((u : ControlUnit) (seqs lists : List ℕ) → Showing (L .steps flight u seqs lists .outcome) idle) → StepTakes flight L → EnterStep L → ⊥
 
 -- "one that finishes the run at its first call and idles after": after the step that is the run's first, nothing runs
 abbrev pub FinishesAtFirst : Library → Type 0
@@ -102,8 +105,8 @@ FinishingAtFirstFails = (L : Library) → FinishesAtFirst L → EnterStep L → 
 
 abbrev pub UnitFinishingFails : Type 0
 UnitFinishingFails = (L : Library)
-    → ((u : ControlUnit) (seqs lists : List ℕ) → u .runner .running ≡ true → u .runner .entering ≡ true → L .steps u seqs lists .unit .runner .running ≡ false)
-    → StepTakes L → EnterStep L → ⊥
+    → ((u : ControlUnit) (seqs lists : List ℕ) → u .runner .running ≡ true → u .runner .entering ≡ true → L .steps flight u seqs lists .unit .runner .running ≡ false)
+    → StepTakes flight L → EnterStep L → ⊥
 
 -- the same, where the first call is the first command 93 of the run: after a step in which ours shows a call, nothing runs
 abbrev pub FinishesAtCall : Library → Type 0
@@ -116,42 +119,42 @@ FinishingAtCallFails = (L : Library) → FinishesAtCall L → CallMade L → ⊥
 
 -- "a check that .. passes all"
 abbrev pub PassingAllFails : Type 0
-PassingAllFails = (f : List ℕ → List ℕ → ℕ → Told) → ((seqs lists : List ℕ) (n : ℕ) → EndsOrReturns (f seqs lists n .ending))
-    → Demand3 (withCheck f) → ⊥
+PassingAllFails = (f : Format → List ℕ → List ℕ → ℕ → Told) → ((seqs lists : List ℕ) (n : ℕ) → EndsOrReturns (f flight seqs lists n .ending))
+    → Demand3 flight (withCheck f) → ⊥
 
 -- "a check that faults all", whatever code, sequence and place it gives
 abbrev pub IsFault : Ending → Type 0
 IsFault e = (code : ℕ) × (n : ℕ) × (place : ℕ) × HasFault code n place e
 
 abbrev pub FaultingAllFails : Type 0
-FaultingAllFails = (f : List ℕ → List ℕ → ℕ → Told) → ((seqs lists : List ℕ) (n : ℕ) → IsFault (f seqs lists n .ending))
-    → Demand3 (withCheck f) → ⊥
+FaultingAllFails = (f : Format → List ℕ → List ℕ → ℕ → Told) → ((seqs lists : List ℕ) (n : ℕ) → IsFault (f flight seqs lists n .ending))
+    → Demand3 flight (withCheck f) → ⊥
 
 -- "one reporting invented steps": of what ours passes it tells another number of steps
 abbrev pub InventedStepsFail : Type 0
-InventedStepsFail = (f : List ℕ → List ℕ → ℕ → Told)
-    → ((seqs lists : List ℕ) (n : ℕ) → EndsOrReturns (ours .checks seqs lists n .ending) → f seqs lists n .steps ≡ ours .checks seqs lists n .steps → ⊥)
-    → Demand3 (withCheck f) → ⊥
+InventedStepsFail = (f : Format → List ℕ → List ℕ → ℕ → Told)
+    → ((seqs lists : List ℕ) (n : ℕ) → EndsOrReturns (ours .checks flight seqs lists n .ending) → f flight seqs lists n .steps ≡ ours .checks flight seqs lists n .steps → ⊥)
+    → Demand3 flight (withCheck f) → ⊥
 
 -- "or exposures": another number of exposures
 abbrev pub InventedExposuresFail : Type 0
-InventedExposuresFail = (f : List ℕ → List ℕ → ℕ → Told)
-    → ((seqs lists : List ℕ) (n : ℕ) → EndsOrReturns (ours .checks seqs lists n .ending) → f seqs lists n .exposures ≡ ours .checks seqs lists n .exposures → ⊥)
-    → Demand3 (withCheck f) → ⊥
+InventedExposuresFail = (f : Format → List ℕ → List ℕ → ℕ → Told)
+    → ((seqs lists : List ℕ) (n : ℕ) → EndsOrReturns (ours .checks flight seqs lists n .ending) → f flight seqs lists n .exposures ≡ ours .checks flight seqs lists n .exposures → ⊥)
+    → Demand3 flight (withCheck f) → ⊥
 
 -- a step of the unit that is always idle keeps demand 3 as little
 abbrev pub IdleUnitFails : Type 0
-IdleUnitFails = (f : ControlUnit → List ℕ → List ℕ → UnitStep) → ((u : ControlUnit) (seqs lists : List ℕ) → Showing (f u seqs lists .outcome) idle)
-    → Demand3 (withSteps f) → ⊥
+IdleUnitFails = (f : Format → ControlUnit → List ℕ → List ℕ → UnitStep) → ((u : ControlUnit) (seqs lists : List ℕ) → Showing (f flight u seqs lists .outcome) idle)
+    → Demand3 flight (withSteps f) → ⊥
 
 -- ── 5. One of each
 
 -- It refuses everything with 6; it writes nothing.
 abbrev pub refusesAll : Library
-refusesAll = withAnswers (λ u time seqs lists out p. record { code = 6; length = 0; unit = u })
+refusesAll = withAnswers (λ F u time seqs lists out p. record { code = 6; size = 0; unit = u })
 
 abbrev pub writesNothing : Library
-writesNothing = withTables (λ u seqs lists out p. seqs) (λ u seqs lists out p. lists)
+writesNothing = withTables (λ F u seqs lists out p. seqs) (λ F u seqs lists out p. lists)
 
 -- Its step is idle; it ends the run; it ends the run at a call.
 abbrev pub alwaysIdle : Library
@@ -168,65 +171,66 @@ finishesAtCall = withRuns (λ E seqs s. atCall s (ours .runs E seqs s))
 
 -- Its check passes all, faults all, tells a step more, tells an exposure more.
 abbrev pub passesAll : Library
-passesAll = withCheck (λ seqs lists n. let t = ours .checks seqs lists n in told (t .names) Finishes (t .steps) (t .exposures))
+passesAll = withCheck (λ F seqs lists n. let t = ours .checks F seqs lists n in told (t .names) Finishes (t .steps) (t .exposures))
 
 abbrev pub faultsAll : Library
-faultsAll = withCheck (λ seqs lists n. let t = ours .checks seqs lists n in told (t .names) (Faulty 3 n 4) (t .steps) (t .exposures))
+faultsAll = withCheck (λ F seqs lists n. let t = ours .checks F seqs lists n in told (t .names) (Faults n (fault 3 4)) (t .steps) (t .exposures))
 
 abbrev pub inventsSteps : Library
-inventsSteps = withCheck (λ seqs lists n. let t = ours .checks seqs lists n in told (t .names) (t .ending) (t .steps + 1) (t .exposures))
+inventsSteps = withCheck (λ F seqs lists n. let t = ours .checks F seqs lists n in told (t .names) (t .ending) (t .steps + 1) (t .exposures))
 
 abbrev pub inventsExposures : Library
-inventsExposures = withCheck (λ seqs lists n. let t = ours .checks seqs lists n in told (t .names) (t .ending) (t .steps) (t .exposures + 1))
+inventsExposures = withCheck (λ F seqs lists n. let t = ours .checks F seqs lists n in told (t .names) (t .ending) (t .steps) (t .exposures + 1))
 
 pub record Refuted : Type 0 where
-  pub refuses-all : AcceptedExactly refusesAll → ⊥
-  pub writes-nothing : EffectE7 writesNothing → ⊥
+  pub refuses-all : AcceptedExactly flight refusesAll → ⊥
+  pub writes-nothing : EffectE7 flight writesNothing → ⊥
   pub always-idle : EnterStep alwaysIdle → ⊥
   pub finishes-at-first : EnterStep finishesAtFirst → ⊥
   pub finishes-at-call : CallMade finishesAtCall → ⊥
-  pub passes-all : Demand3 passesAll → ⊥
-  pub faults-all : Demand3 faultsAll → ⊥
-  pub invents-steps : Demand3 inventsSteps → ⊥
-  pub invents-exposures : Demand3 inventsExposures → ⊥
+  pub passes-all : Demand3 flight passesAll → ⊥
+  pub faults-all : Demand3 flight faultsAll → ⊥
+  pub invents-steps : Demand3 flight inventsSteps → ⊥
+  pub invents-exposures : Demand3 flight inventsExposures → ⊥
 
 -- ── 6. Misreadings
 
 -- "Advancing the mirror after every exposure, not every set": only an exposure adds 1 to the count of the set.
 abbrev pub mirrorEachExposure : Library
 mirrorEachExposure =
-    withSteps (λ u seqs lists.
-    let r = ours .steps u seqs lists in
-    let raster = rasterAt (entryOf seqs (u .runner .sequence)) (u .runner .raster) in
-    let mirror = cond (eqb (r .unit .runner .count) (u .runner .count + 1)) (u .runner .mirror + raster .step) (r .unit .runner .mirror) in
+    withSteps (λ F u seqs lists.
+    let r = ours .steps F u seqs lists in
+    let raster = rasterAt (entryOf F seqs (u .runner .sequence)) (u .runner .raster .place) in
+    let mirror = cond (eqb (r .unit .runner .raster .count) (u .runner .raster .count + 1)) (u .runner .mirror + raster .step) (r .unit .runner .mirror) in
     record { outcome = r .outcome; unit = withRunner (withMirror mirror (r .unit .runner)) (r .unit) })
 
 -- "A raster repeat begun at the last position": a repeat's run raster, the one command at the open raster's own place, leaves the mirror.
 abbrev pub repeatAtLast : Library
 repeatAtLast =
-    withSteps (λ u seqs lists.
-    let r = ours .steps u seqs lists in
-    let mirror = cond (eqb (u .runner .place) (u .runner .raster)) (u .runner .mirror) (r .unit .runner .mirror) in
+    withSteps (λ F u seqs lists.
+    let r = ours .steps F u seqs lists in
+    let mirror = cond (eqb (u .runner .place) (u .runner .raster .place)) (u .runner .mirror) (r .unit .runner .mirror) in
     record { outcome = r .outcome; unit = withRunner (withMirror mirror (r .unit .runner)) (r .unit) })
 
 -- A check that takes every line list for a good one; a sequence table that is written while a sequence runs.
 abbrev pub faultyRasterPassed : Library
-faultyRasterPassed = withCheck (λ seqs lists n. chainOf (record { lists = λ k. Good; size = 128; last = 127 }) seqs n)
+faultyRasterPassed = withCheck (λ F seqs lists n. chainOf F (findingOf (record { format = F; cards = λ k. Good }) seqs) n)
 
 abbrev pub uplinkWhileRunning : Library
 uplinkWhileRunning =
-    withTables (λ u seqs lists out p. ours .seqsLeft (withRunner (withRunning false (u .runner)) u) seqs lists out p) (λ u seqs lists out p. ours .listsLeft u seqs lists out p)
+    withTables (λ F u seqs lists out p. ours .seqsLeft F (withRunner (withRunning false (u .runner)) u) seqs lists out p) (λ F u seqs lists out p. ours .listsLeft F u seqs lists out p)
 
 pub record MisreadRefuted : Type 0 where
-  pub mirror-each-exposure : Demand3 mirrorEachExposure → ⊥
-  pub repeat-at-last : Demand3 repeatAtLast → ⊥
-  pub faulty-raster-passed : Demand3 faultyRasterPassed → ⊥
-  pub uplink-while-running : Demand3 uplinkWhileRunning → ⊥
+  pub mirror-each-exposure : Demand3 flight mirrorEachExposure → ⊥
+  pub repeat-at-last : Demand3 flight repeatAtLast → ⊥
+  pub faulty-raster-passed : Demand3 flight faultyRasterPassed → ⊥
+  pub uplink-while-running : Demand3 flight uplinkWhileRunning → ⊥
 
 -- ── 7. Any other check
 
--- Beside our unit demand 3 decides all that the check tells, over all tables: a check that keeps it tells what ours tells, the names, the ending with
--- a fault's code, sequence and place, the steps and the exposures. So one that differs from ours at a single table keeps no demand 3.
-abbrev pub CheckDecided : Type 0
-CheckDecided = (f : List ℕ → List ℕ → ℕ → Told) → Demand3 (withCheck f) → (w : World) → Reached ours w → modeOf w ≡ 2 → (n : ℕ) → n ≤ 127
-    → f (w .seqs) (w .lists) n ≡ ours .checks (w .seqs) (w .lists) n
+-- Beside our unit demand 3 decides all that the check tells, over all tables of the right sizes (Applies: each is reached in MANUAL) and of every
+-- sequence: a check that keeps it tells what ours tells, the names, the ending with a fault's code, sequence and place, the steps and the exposures.
+-- So one that differs from ours at a single table keeps no demand 3.
+abbrev pub CheckDecided : Format → Type 0
+CheckDecided F = (f : Format → List ℕ → List ℕ → ℕ → Told) → Demand3 F (withCheck f) → (w : World F) → Reached ours w → modeOf w ≡ 2 → (n : ℕ) → n ≤ F .last
+    → f F (w .seqs) (w .lists) n ≡ ours .checks F (w .seqs) (w .lists) n

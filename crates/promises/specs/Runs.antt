@@ -5,6 +5,7 @@ use mathlib.Core.Bool.{Bool, true, cond, not}
 use mathlib.Core.List.{List, [], _∷_, _++_}
 use lib.Dec.{eqb}
 use lib.ListN.{getD}
+use Rattle.sequence.specs.declared.Fault.{Fault}
 use Rattle.sequence.specs.Env.{Env}
 use Rattle.runner.specs.declared.Runner.{Runner}
 use Rattle.runner.specs.declared.Sight.{Sight}
@@ -64,12 +65,12 @@ pub data Run (E : Env) (seqs : List ℕ) : Runner → List Sight → Runner → 
   done : {s : Runner} → Run E seqs s [] s
   more : {s next last : Runner} {e : Event} {ws : List Sight} → stepOf E seqs s ≡ to e next → quiet e ≡ true → Run E seqs next ws last → Run E seqs s (seen e next ∷ ws) last
 
--- a run, and then a step that aborts with this code in sequence n at place p
-pub record Aborts (E : Env) (seqs : List ℕ) (code n p : ℕ) (s : Runner) : Type 0 where
+-- a run, and then a step that aborts in sequence n with this fault
+pub record Aborts (E : Env) (seqs : List ℕ) (n : ℕ) (fault : Fault) (s : Runner) : Type 0 where
   pub sights : List Sight
   pub last : Runner
   pub ran : Run E seqs s sights last
-  pub abort : stepOf E seqs last .event ≡ Abort code n p
+  pub abort : stepOf E seqs last .event ≡ Abort (fault .code) n (fault .place)
 
 -- the runner after k steps
 unfoldable pub afterSteps : Env → List ℕ → ℕ → Runner → Runner
@@ -96,5 +97,5 @@ pub record AtDoor (n m : ℕ) (s : Runner) : Type 0 where
   pub entering : s .entering ≡ true
   pub sequence : s .sequence ≡ n
   pub place : s .place ≡ 0
-  pub raster : s .raster ≡ 255
+  pub raster : s .raster .place ≡ 255
   pub mirror : s .mirror ≡ m

@@ -3,14 +3,15 @@ use Prim.Native.Nat.{ℕ}
 use mathlib.Core.Path.{_≡_}
 use mathlib.Core.List.{List}
 use Rattle.octets.specs.Bytes.{byteAt}
+use Rattle.memory.specs.declared.Format.{Format}
 use Rattle.unit.specs.declared.Unit.{Unit as ControlUnit}
 use Rattle.unit.specs.declared.Ledger.{Ledger}
 use Rattle.unit.specs.declared.Answer.{Answer}
 use Rattle.unit.specs.State.{counted, logOf}
 use Rattle.promises.specs.Library.{Library}
 
--- A packet is sent to a unit at a time, with two tables and an output lent, each of any size.
-pub record Sent : Type 0 where
+-- A packet is sent to a unit at a time, with two tables and an output lent, each of any size; the sequence table is read by a format.
+pub record Sent (F : Format) : Type 0 where
   pub unit : ControlUnit
   pub time : ℕ
   pub seqs : List ℕ
@@ -19,39 +20,39 @@ pub record Sent : Type 0 where
   pub bytes : List ℕ
 
 -- What `Unit::packet` promises of it: the answer, with its code, its length and the unit after it; the tables and the output after it.
-abbrev pub answer : Library → Sent → Answer
-answer L s = L .answers (s .unit) (s .time) (s .seqs) (s .lists) (s .out) (s .bytes)
+abbrev pub answerTo : {F : Format} → Library → Sent F → Answer
+answerTo {F} L s = L .answers F (s .unit) (s .time) (s .seqs) (s .lists) (s .out) (s .bytes)
 
-abbrev pub code : Library → Sent → ℕ
-code L s = answer L s .code
+abbrev pub code : {F : Format} → Library → Sent F → ℕ
+code L s = answerTo L s .code
 
-abbrev pub after : Library → Sent → ControlUnit
-after L s = answer L s .unit
+abbrev pub unitLeft : {F : Format} → Library → Sent F → ControlUnit
+unitLeft L s = answerTo L s .unit
 
-abbrev pub seqsLeft : Library → Sent → List ℕ
-seqsLeft L s = L .seqsLeft (s .unit) (s .seqs) (s .lists) (s .out) (s .bytes)
+abbrev pub seqsLeft : {F : Format} → Library → Sent F → List ℕ
+seqsLeft {F} L s = L .seqsLeft F (s .unit) (s .seqs) (s .lists) (s .out) (s .bytes)
 
-abbrev pub listsLeft : Library → Sent → List ℕ
-listsLeft L s = L .listsLeft (s .unit) (s .seqs) (s .lists) (s .out) (s .bytes)
+abbrev pub listsLeft : {F : Format} → Library → Sent F → List ℕ
+listsLeft {F} L s = L .listsLeft F (s .unit) (s .seqs) (s .lists) (s .out) (s .bytes)
 
-abbrev pub outLeft : Library → Sent → List ℕ
-outLeft L s = L .outLeft (s .unit) (s .time) (s .seqs) (s .lists) (s .out) (s .bytes)
+abbrev pub outLeft : {F : Format} → Library → Sent F → List ℕ
+outLeft {F} L s = L .outLeft F (s .unit) (s .time) (s .seqs) (s .lists) (s .out) (s .bytes)
 
 -- BC1 is byte 1 of the packet, BC2 byte 2, and so on: 0 past its end. So the command number of an empty packet is 0.
-abbrev pub bc1 : Sent → ℕ
+abbrev pub bc1 : {F : Format} → Sent F → ℕ
 bc1 s = byteAt (s .bytes) 0
 
-abbrev pub bc2 : Sent → ℕ
+abbrev pub bc2 : {F : Format} → Sent F → ℕ
 bc2 s = byteAt (s .bytes) 1
 
 -- Both tables are as they were.
-pub record TablesKept (L : Library) (s : Sent) : Type 0 where
+pub record TablesKept {F : Format} (L : Library) (s : Sent F) : Type 0 where
   pub sequences : seqsLeft L s ≡ s .seqs
   pub lineLists : listsLeft L s ≡ s .lists
 
 -- Nothing is answered but the code, and the output is as it was.
-pub record NoAnswer (L : Library) (s : Sent) : Type 0 where
-  pub size : answer L s .length ≡ 0
+pub record NoAnswer {F : Format} (L : Library) (s : Sent F) : Type 0 where
+  pub size : answerTo L s .size ≡ 0
   pub output : outLeft L s ≡ s .out
 
 -- An obeyed packet p counted and logged: "adds 1 to TC_REC_PKTC and sets the log". The failures shown are as they were.

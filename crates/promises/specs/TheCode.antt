@@ -8,15 +8,16 @@ use contract.Lifetimes.{Lfts}
 use denote.Ref.{now}
 use denote.Triple.Clauses.{AtExit}
 use borrow.Fn.Kinds.{PK, RK, Out, Dens, resT, endedOf}
+use Rattle.memory.specs.Memory.{flight}
 use Rattle.sequence.specs.Env.{envOf}
 use Rattle.runner.proofs as runner
 use Rattle.survey.proofs as survey
 use Rattle.survey.specs.Report.{reportOf}
 use Rattle.unit.proofs as unit
 use Rattle.unit.specs.State.{outOfRange}
-use Rattle.unit.specs.Packet.{kindOf}
+use Rattle.unit.specs.Packet.{telecommandOf}
 use Rattle.promises.specs.Library.{ours}
-use Rattle.promises.specs.Sent.{Sent, answer, seqsLeft, listsLeft, outLeft}
+use Rattle.promises.specs.Sent.{Sent, answerTo, seqsLeft, listsLeft, outLeft}
 
 -- A function with parameters ps and a result of kind k is called with any arguments. What its contract allows of the result and of the parameters at
 -- exit has the property.
@@ -32,23 +33,23 @@ PowerOnIs = Called unit.Unit.power_on.Kinds.ps unit.Unit.power_on.Kinds.r unit.U
 -- `Unit::packet`: its answer, and what it leaves in both tables and in the output.
 abbrev pub PacketIs : Type 0
 PacketIs = Called unit.Unit.packet.Kinds.ps unit.Unit.packet.Kinds.r unit.Unit.packet.Reads.Learnt
-    (λ κs (self, (seqs, (lists, (out, (time, (pkt, _)))))) result (_, (seqs′, (lists′, (out′, _)))).
-    let s : Sent = record { unit = self; time = time; seqs = now seqs; lists = now lists; out = now out; bytes = now pkt } in
-    (result ≡ answer ours s) × (now seqs′ ≡ seqsLeft ours s) × (now lists′ ≡ listsLeft ours s) × (now out′ ≡ outLeft ours s))
+    (λ κs (self, (format, (seqs, (lists, (out, (time, (pkt, _))))))) result (_, (_, (seqs′, (lists′, (out′, _))))).
+    let s : Sent format = record { unit = self; time = time; seqs = now seqs; lists = now lists; out = now out; bytes = now pkt } in
+    (result ≡ answerTo ours s) × (now seqs′ ≡ seqsLeft ours s) × (now lists′ ≡ listsLeft ours s) × (now out′ ≡ outLeft ours s))
 
 -- `Unit::step`, and `Runner::step` in it
 abbrev pub StepIs : Type 0
 StepIs = Called unit.Unit.step.Kinds.ps unit.Unit.step.Kinds.r unit.Unit.step.Reads.Learnt
-    (λ κs (self, (seqs, (lists, _))) result exit. result ≡ ours .steps self (now seqs) (now lists))
+    (λ κs (self, (format, (seqs, (lists, _)))) result exit. result ≡ ours .steps format self (now seqs) (now lists))
 
 abbrev pub RunIs : Type 0
 RunIs = Called runner.Runner.step.Kinds.ps runner.Runner.step.Kinds.r runner.Runner.step.Reads.Learnt
-    (λ κs (self, (seqs, (lists, _))) result exit. result ≡ ours .runs (envOf (now lists)) (now seqs) self)
+    (λ κs (self, (format, (seqs, (lists, _)))) result exit. result ≡ ours .runs (envOf format (now lists)) (now seqs) self)
 
 -- `check`: the report of what the check tells.
 abbrev pub CheckIs : Type 0
 CheckIs = Called survey.check.Kinds.ps survey.check.Kinds.r survey.check.Reads.Learnt
-    (λ κs (seqs, (lists, (number, _))) result exit. result ≡ reportOf (ours .checks (now seqs) (now lists) number))
+    (λ κs (seqs, (lists, (number, _))) result exit. result ≡ reportOf (ours .checks flight (now seqs) (now lists) number))
 
 -- `window_code` and `window`
 abbrev pub WindowCodeIs : Type 0
@@ -62,8 +63,8 @@ WindowIs = Called unit.window.Kinds.ps unit.window.Kinds.r unit.window.Reads.Lea
 -- Two that demand 2 speaks of by their definitions: whether a state is out of range, and the command that BC1 names.
 abbrev pub OutOfRangeIs : Type 0
 OutOfRangeIs = Called unit.Unit.out_of_range.Kinds.ps unit.Unit.out_of_range.Kinds.r unit.Unit.out_of_range.Reads.Learnt
-    (λ κs (self, _) result exit. result ≡ outOfRange self)
+    (λ κs (self, (format, _)) result exit. result ≡ outOfRange format self)
 
-abbrev pub KindIs : Type 0
-KindIs = Called unit.kind_of.Kinds.ps unit.kind_of.Kinds.r unit.kind_of.Reads.Learnt
-    (λ κs (number, _) result exit. result ≡ kindOf number)
+abbrev pub TelecommandIs : Type 0
+TelecommandIs = Called unit.telecommand_of.Kinds.ps unit.telecommand_of.Kinds.r unit.telecommand_of.Reads.Learnt
+    (λ κs (number, _) result exit. result ≡ telecommandOf number)

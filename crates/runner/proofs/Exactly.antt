@@ -11,7 +11,7 @@ use borrow.Author.Tests.{eqb-true, ne-eqb}
 use Rattle.octets.specs.Rows.{Row, firstCode, NoneHolds, FirstBears, coded}
 use Rattle.octets.proofs.Laws.{none-holds, no-code, first-bears, bears-first}
 use Rattle.sequence.specs.declared.Command.the-variants.{RunRaster, Expose, LoopBack, CallSequence, Terminate}
-use Rattle.sequence.specs.Env.{Env}
+use Rattle.sequence.specs.declared.ListCard.{ListCard}
 use Rattle.runner.specs.declared.Opened.{Opened}
 use Rattle.runner.specs.declared.Opened.the-variants.{Shut, Open}
 use Rattle.runner.specs.declared.Act.{Act}
@@ -60,29 +60,29 @@ clash z = omega arith
 loop-coded : (text : List ℕ) (p t : ℕ) (o : Opened) → T (coded (loopRows text p t o))
 unfolding loopRows
 loop-coded text p t Shut = tt
-loop-coded text p t (Open r c) = tt
+loop-coded text p t (Open r c n) = tt
 
-module _ (E : Env) (text : List ℕ) (p : ℕ) where
-  pub run-raster-exactly : (o : Opened) → Exactly (runRows E text p o) (judged E text p o RunRaster) Opens
+module _ (cards : ℕ → ListCard) (text : List ℕ) (p : ℕ) where
+  pub run-raster-exactly : (o : Opened) → Exactly (runRows cards text p o) (judged cards text p o RunRaster) Opens
   unfolding judged runRows rasterRows pathRows
-  run-raster-exactly o = exactly (runRows E text p o) Opens (λ c e. clash (cc)) tt
+  run-raster-exactly o = exactly (runRows cards text p o) Opens (λ c e. clash (cc)) tt
 
-  pub expose-exactly : (time : ℕ) (r : Place) (c : ℕ) → Exactly (exposeRows text time (Open r c)) (judged E text p (Open r c) (Expose time)) (Exposes r)
+  pub expose-exactly : (time : ℕ) (r : Place) (c n : ℕ) → Exactly (exposeRows text time (Open r c n)) (judged cards text p (Open r c n) (Expose time)) (Exposes r)
   unfolding judged exposeRows
-  expose-exactly time r c = exactly (exposeRows text time (Open r c)) (Exposes r) (λ k e. clash (cc)) tt
+  expose-exactly time r c n = exactly (exposeRows text time (Open r c n)) (Exposes r) (λ k e. clash (cc)) tt
 
-  pub expose-shut : (time : ℕ) → judged E text p Shut (Expose time) ≡ Refused 3
+  pub expose-shut : (time : ℕ) → judged cards text p Shut (Expose time) ≡ Refused 3
   unfolding judged exposeRows
   expose-shut time = refl
 
-  pub loop-back-exactly : (t : ℕ) (o : Opened) → Exactly (loopRows text p t o) (judged E text p o (LoopBack t)) (Loops t)
+  pub loop-back-exactly : (t : ℕ) (o : Opened) → Exactly (loopRows text p t o) (judged cards text p o (LoopBack t)) (Loops t)
   unfolding judged
   loop-back-exactly t o = exactly (loopRows text p t o) (Loops t) (λ c e. clash (cc)) (loop-coded text p t o)
 
-  pub call-exactly : (n : ℕ) (o : Opened) → Exactly (closeRows text p o) (judged E text p o (CallSequence n)) (Calls n)
+  pub call-exactly : (n : ℕ) (o : Opened) → Exactly (closeRows text p o) (judged cards text p o (CallSequence n)) (Calls n)
   unfolding judged closeRows
   call-exactly n o = exactly (closeRows text p o) (Calls n) (λ c e. clash (cc)) tt
 
-  pub terminate-exactly : (o : Opened) → Exactly (closeRows text p o) (judged E text p o Terminate) Ends
+  pub terminate-exactly : (o : Opened) → Exactly (closeRows text p o) (judged cards text p o Terminate) Ends
   unfolding judged closeRows
   terminate-exactly o = exactly (closeRows text p o) Ends (λ c e. clash (cc)) tt

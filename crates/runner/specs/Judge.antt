@@ -1,6 +1,6 @@
--- What the command at a place comes to, from the text, the place, the open raster's place and the exposures in the set alone.
+-- What the command at a place comes to, from the text, the place, the open raster and what is known of the line lists alone.
 -- The step acts on this judgement and the table check walks the text with it.
-use Prim.Native.Nat.{ℕ, _+_}
+use Prim.Native.Nat.{ℕ, _+_, _-_}
 use mathlib.Core.Bool.{Bool, true, false, cond, not}
 use mathlib.Core.List.{List, [], _∷_, _++_}
 use lib.Dec.{ltb, leb, eqb}
@@ -11,9 +11,9 @@ use Rattle.sequence.specs.declared.Command.the-variants.{RunRaster, Expose, Loo
 use Rattle.sequence.specs.declared.RasterWords.{RasterWords}
 use Rattle.sequence.specs.Text.{limit, sizeAt, commandAt, isRunRaster}
 use Rattle.sequence.specs.Starts.{targetGood}
-use Rattle.sequence.specs.Raster.{rasterAt, flagsGood, reachOf}
-use Rattle.sequence.specs.LineList.{isGood}
-use Rattle.sequence.specs.Env.{Env}
+use Rattle.sequence.specs.declared.ListCard.{ListCard}
+use Rattle.sequence.specs.Raster.{rasterAt, flagsGood, leaves}
+use Rattle.sequence.specs.LineList.{isBad}
 use Rattle.runner.specs.declared.Opened.{Opened}
 use Rattle.runner.specs.declared.Opened.the-variants.{Shut, Open}
 use Rattle.runner.specs.declared.Act.{Act}
@@ -23,12 +23,21 @@ use Rattle.runner.specs.declared.Act.the-variants.{Refused, Opens, Expos
 -- "raster open"
 abbrev pub isOpen : Opened → Bool
 isOpen Shut = false
-isOpen (Open r c) = true
+isOpen (Open r c n) = true
 
 -- "raster already open": at its own place a run raster is a repeat's jump back
 abbrev pub openElsewhere : ℕ → Opened → Bool
 openElsewhere p Shut = false
-openElsewhere p (Open r c) = not (eqb (r .0) p)
+openElsewhere p (Open r c n) = not (eqb (r .0) p)
+
+-- "a count left of 0 is taken as 1"
+abbrev pub countLeft : ℕ → ℕ
+countLeft n = cond (ltb 1 n) n 1
+
+-- the number, from 0, of the raster repeat that a run raster begins: a count left includes the repeat under way
+abbrev pub repeatBegun : RasterWords → Opened → ℕ
+repeatBegun raster Shut = 0
+repeatBegun raster (Open r c n) = raster .repeats - countLeft n
 
 -- how many exposures fill a set: the raster's, and never more than 8
 abbrev pub setOf : RasterWords → ℕ
@@ -48,36 +57,33 @@ countRows raster =
     ∷ row 5 (ltb 8 (raster .exposures))
     ∷ []
 
-abbrev pub listBad : Env → ℕ → Bool
-listBad E n = not (isGood (E .lists n))
-
 -- "line list above 47, 6; line list bad 7"
-abbrev pub listRows : Env → RasterWords → List Row
-listRows E raster = row 6 (ltb 47 (raster .list)) ∷ row 7 (listBad E (raster .list)) ∷ []
+abbrev pub listRows : (ℕ → ListCard) → RasterWords → List Row
+listRows cards raster = row 6 (ltb 47 (raster .list)) ∷ row 7 (isBad (cards (raster .list))) ∷ []
 
--- "initial or step above 2400, or initial + (loops - 1) x step above 2400, 14"
-unfoldable pub pathRows : RasterWords → List Row
-pathRows raster =
+-- "initial or step above 2400, or initial + (loops - 1) x step above 2400, 14"; k: the repeat that is begun
+unfoldable pub pathRows : RasterWords → ℕ → List Row
+pathRows raster k =
     row 14 (ltb 2400 (raster .initial))
     ∷ row 14 (ltb 2400 (raster .step))
-    ∷ row 14 (ltb 2400 (reachOf raster 0))
+    ∷ row 14 (leaves raster k)
     ∷ []
 
 -- "ASRC not 0, or more than one of science bits 2-5 set, 3"
 abbrev pub flagRows : RasterWords → List Row
 flagRows raster = row 3 (not (eqb (raster .asrc) 0)) ∷ row 3 (not (flagsGood (raster .science))) ∷ []
 
-unfoldable pub rasterRows : Env → RasterWords → List Row
-rasterRows E raster = countRows raster ++ (listRows E raster ++ (pathRows raster ++ flagRows raster))
+unfoldable pub rasterRows : (ℕ → ListCard) → RasterWords → ℕ → List Row
+rasterRows cards raster k = countRows raster ++ (listRows cards raster ++ (pathRows raster k ++ flagRows raster))
 
 -- "Run raster: raster already open 3 (a repeat's jump back isn't that ..)"
-unfoldable pub runRows : Env → List ℕ → ℕ → Opened → List Row
-runRows E text p o = row 3 (openElsewhere p o) ∷ rasterRows E (rasterAt text p)
+unfoldable pub runRows : (ℕ → ListCard) → List ℕ → ℕ → Opened → List Row
+runRows cards text p o = row 3 (openElsewhere p o) ∷ rasterRows cards (rasterAt text p) (repeatBegun (rasterAt text p) o)
 
 -- "Expose: no open raster, time 0, or the set already full, 3."
 unfoldable pub exposeRows : List ℕ → ℕ → Opened → List Row
 exposeRows text time Shut = row 3 true ∷ []
-exposeRows text time (Open r c) =
+exposeRows text time (Open r c n) =
     row 3 (not (isRunRaster (commandAt text (r .0))))
     ∷ row 3 (eqb time 0)
     ∷ row 3 (full text r c)
@@ -86,7 +92,7 @@ exposeRows text time (Open r c) =
 -- "Loop back: no open raster, set not full, or target not the start of a command .., 3."
 unfoldable pub loopRows : List ℕ → ℕ → ℕ → Opened → List Row
 loopRows text p t Shut = row 3 true ∷ []
-loopRows text p t (Open r c) =
+loopRows text p t (Open r c n) =
     row 3 (not (isRunRaster (commandAt text (r .0))))
     ∷ row 3 (not (full text r c))
     ∷ row 3 (not (targetGood text (r .0) p t))
@@ -104,19 +110,19 @@ unless code act = cond (eqb code 0) act (Refused code)
 -- an exposure in the open raster
 abbrev pub exposesIn : Opened → Act
 exposesIn Shut = Refused 3
-exposesIn (Open r c) = Exposes r
+exposesIn (Open r c n) = Exposes r
 
 -- "No command there .., an unknown number, or one that doesn't fit before the checksum: 3."
-unfoldable pub judged : Env → List ℕ → ℕ → Opened → Command → Act
-judged E text p o RunRaster = unless (firstCode (runRows E text p o)) Opens
-judged E text p o (Expose time) = unless (firstCode (exposeRows text time o)) (exposesIn o)
-judged E text p o (LoopBack t) = unless (firstCode (loopRows text p t o)) (Loops t)
-judged E text p o (CallSequence n) = unless (firstCode (closeRows text p o)) (Calls n)
-judged E text p o Terminate = unless (firstCode (closeRows text p o)) Ends
-judged E text p o (Delay time) = Waits
-judged E text p o Nothing = Refused 3
-judged E text p o Unknown = Refused 3
-judged E text p o Unfit = Refused 3
+unfoldable pub judged : (ℕ → ListCard) → List ℕ → ℕ → Opened → Command → Act
+judged cards text p o RunRaster = unless (firstCode (runRows cards text p o)) Opens
+judged cards text p o (Expose time) = unless (firstCode (exposeRows text time o)) (exposesIn o)
+judged cards text p o (LoopBack t) = unless (firstCode (loopRows text p t o)) (Loops t)
+judged cards text p o (CallSequence n) = unless (firstCode (closeRows text p o)) (Calls n)
+judged cards text p o Terminate = unless (firstCode (closeRows text p o)) Ends
+judged cards text p o (Delay time) = Waits
+judged cards text p o Nothing = Refused 3
+judged cards text p o Unknown = Refused 3
+judged cards text p o Unfit = Refused 3
 
-unfoldable pub judge : Env → List ℕ → ℕ → Opened → Act
-judge E text p o = judged E text p o (commandAt text p)
+unfoldable pub judge : (ℕ → ListCard) → List ℕ → ℕ → Opened → Act
+judge cards text p o = judged cards text p o (commandAt text p)

@@ -3,17 +3,30 @@ ghost use mathlib.Core.Path.{_≡_};
 ghost use Prim.Native.Nat.{_+_, _*_, _-_, _<_, _≤_};
 ghost use lib.ListN.{length};
 ghost use Rattle.octets.specs.Rows.{firstCode};
-ghost use Rattle.sequence.specs.Raster.{rasterAt};
-ghost use Rattle.sequence.specs.Env.{envOf};
-ghost use Rattle.runner.specs.Judge.{isOpen, openElsewhere, setOf, full, listBad, countRows, listRows, pathRows, flagRows, rasterRows, runRows, exposeRows, loopRows, closeRows, unless, exposesIn, judge};
+ghost use Rattle.sequence.specs.declared.RasterWords.{RasterWords};
+ghost use Rattle.sequence.specs.Raster.{rasterAt, startOf, reachOf};
+ghost use Rattle.sequence.specs.Text.{fault, sizeAt};
+ghost use Rattle.sequence.specs.LineList.{isBad};
+ghost use Rattle.sequence.specs.Env.{cardsOf, envOf};
+ghost use Rattle.runner.specs.Judge.{isOpen, openElsewhere, countLeft, repeatBegun, setOf, full, countRows, listRows, pathRows, flagRows, rasterRows, runRows, exposeRows, loopRows, closeRows, unless, exposesIn, judge};
 ghost use Rattle.runner.specs.Step.{to, openOf, aborted, entered, advances, exposedAt, another, act, stepIn, stepOf, Stands};
-ghost use Rattle.runner.specs.With.{withPlace};
+ghost use Rattle.runner.specs.With.{withPlace, openAt, withCount, withPasses, withRepeats};
+use memory::Format;
 use memory::Place;
 use memory::Placed;
 use sequence::Command;
+use sequence::Fault;
 use sequence::Header;
-use sequence::ListTest;
+use sequence::ListCard;
 use sequence::RasterWords;
+
+// The open raster: its place, 255 for none; the exposures made in the present set; the passes and the repeats left.
+pub struct OpenRaster {
+    pub place: u8,
+    pub count: u8,
+    pub passes: u16,
+    pub repeats: u16,
+}
 
 // What the interpreter moves. A count left includes the pass, repeat or round under way; 0 is taken as 1.
 pub struct Runner {
@@ -22,12 +35,7 @@ pub struct Runner {
     pub place: u8,
     pub running: bool,
     pub entering: bool,
-    // the open raster's place, 255 for none
-    pub raster: u8,
-    // exposures made in the present set
-    pub count: u8,
-    pub passes: u16,
-    pub repeats: u16,
+    pub raster: OpenRaster,
     pub rounds: u8,
     pub mirror: u16,
 }
@@ -63,10 +71,10 @@ pub struct Sight {
     pub mirror: u16,
 }
 
-// The raster that is open: its place and the exposures made in the set.
+// The raster that is open: its place, the exposures made in the set and the repeats left.
 pub enum Opened {
     Shut,
-    Open(Place, u8),
+    Open(Place, u8, u16),
 }
 
 // What the command at a place comes to: refused with a code, or what it does; an exposure names its raster's place.
@@ -91,6 +99,20 @@ fn unless(code: u8, judgement: Act) -> Act
     }
 }
 
+// A count left, 0 taken as 1.
+fn count_left(n: u16) -> u16
+    ensures { λ r. ⌜ r ≡ countLeft n ⌝ }
+{
+    if 1 < n { n } else { 1 }
+}
+
+// How many are left of some when others are gone, none where there are no more than those.
+fn less(some: u16, gone: u16) -> u16
+    ensures { λ r. ⌜ r ≡ some - gone ⌝ }
+{
+    if gone < some { some - gone } else { 0 }
+}
+
 impl Opened {
     // Whether a raster is open.
     fn is_open(self) -> bool
@@ -98,7 +120,7 @@ impl Opened {
     {
         match self {
             Opened::Shut => false,
-            Opened::Open(_, _) => true,
+            Opened::Open(_, _, _) => true,
         }
     }
 
@@ -108,7 +130,7 @@ impl Opened {
     {
         match self {
             Opened::Shut => false,
-            Opened::Open(r, _) => r.number() != at.number(),
+            Opened::Open(r, _, _) => r.number() != at.number(),
         }
     }
 
@@ -118,7 +140,17 @@ impl Opened {
     {
         match self {
             Opened::Shut => Act::Refused(3),
-            Opened::Open(raster, _) => Act::Exposes(raster),
+            Opened::Open(raster, _, _) => Act::Exposes(raster),
+        }
+    }
+
+    // The number, from 0, of the repeat that a run raster of so many repeats begins.
+    fn repeat_begun(self, repeats: u16) -> u16
+        ensures { λ r. ⌜ ((raster : RasterWords) → repeats ≡ raster .repeats → r ≡ repeatBegun raster self) ⌝ }
+    {
+        match self {
+            Opened::Shut => 0,
+            Opened::Open(_, _, left) => less(repeats, count_left(left)),
         }
     }
 }
@@ -142,14 +174,28 @@ fn full(text: &[u8], raster: Place, count: u8) -> bool
     set_of(text, raster) <= count
 }
 
-// Where the last pass of a raster stands: the whole sum, not cut to a word.
-fn reach(initial: u16, loops: u16, step: u16) -> u32
-    ensures { λ r. ⌜ r ≡ initial + (loops - 1) * step ⌝ }
+// Where repeat k of a raster with this initial position begins.
+fn start_of(initial: u16, k: u16) -> u16
+    ensures { λ r. ⌜ ((raster : RasterWords) → initial ≡ raster .initial → r ≡ startOf raster k) ⌝ }
+{
+    initial
+}
+
+// Where the last of so many passes stands: the whole sum, not cut to a word.
+fn last_pass(start: u16, loops: u16, step: u16) -> u32
+    ensures { λ r. ⌜ r ≡ start + (loops - 1) * step ⌝ }
 {
     if loops == 0 {
-        return initial as u32;
+        return start as u32;
     }
-    initial as u32 + (loops as u32 - 1) * (step as u32)
+    start as u32 + (loops as u32 - 1) * (step as u32)
+}
+
+// Where the last pass of repeat k of a raster stands.
+fn reach(raster: RasterWords, k: u16) -> u32
+    ensures { λ r. ⌜ r ≡ reachOf raster k ⌝ }
+{
+    last_pass(start_of(raster.initial, k), raster.loops, raster.step)
 }
 
 // Where the mirror stands one step on.
@@ -159,13 +205,13 @@ fn advanced(mirror: u16, step: u16) -> u32
     mirror as u32 + step as u32
 }
 
-// Whether a line list is bad.
+// Whether a line list's card refuses it.
 fn list_bad(lists: &[u8], n: u8) -> bool
-    ensures { λ r. ⌜ r ≡ listBad (envOf (now (lists .entry))) n ⌝ }
+    ensures { λ r. ⌜ r ≡ isBad (cardsOf (now (lists .entry)) n) ⌝ }
 {
-    match sequence::list_test(memory::list(lists, n)) {
-        ListTest::Good => false,
-        ListTest::Bad => true,
+    match sequence::list_card(memory::list(lists, n)) {
+        ListCard::Good => false,
+        ListCard::Wrong => true,
     }
 }
 
@@ -190,7 +236,7 @@ fn count_fault(raster: RasterWords) -> u8
 
 // The code with which a raster's line list is refused, or 0.
 fn list_fault(raster: RasterWords, lists: &[u8]) -> u8
-    ensures { λ r. ⌜ r ≡ firstCode (listRows (envOf (now (lists .entry))) raster) ⌝ }
+    ensures { λ r. ⌜ r ≡ firstCode (listRows (cardsOf (now (lists .entry))) raster) ⌝ }
 {
     octets::refuse(
         memory::LAST_LINE_LIST < raster.list,
@@ -199,9 +245,9 @@ fn list_fault(raster: RasterWords, lists: &[u8]) -> u8
     )
 }
 
-// The code with which a raster's path is refused, or 0.
-fn path_fault(raster: RasterWords) -> u8
-    ensures { λ r. ⌜ r ≡ firstCode (pathRows raster) ⌝ }
+// The code with which a raster's path is refused, or 0. Every repeat takes the same path: that of the one begun decides.
+fn path_fault(raster: RasterWords, k: u16) -> u8
+    ensures { λ r. ⌜ r ≡ firstCode (pathRows raster k) ⌝ }
 {
     octets::refuse(
         Runner::END_STOP < raster.initial,
@@ -209,11 +255,7 @@ fn path_fault(raster: RasterWords) -> u8
         octets::refuse(
             Runner::END_STOP < raster.step,
             14,
-            octets::refuse(
-                (Runner::END_STOP as u32) < reach(raster.initial, raster.loops, raster.step),
-                14,
-                0,
-            ),
+            octets::refuse((Runner::END_STOP as u32) < reach(raster, k), 14, 0),
         ),
     )
 }
@@ -230,12 +272,12 @@ fn flag_fault(raster: RasterWords) -> u8
 }
 
 // The code with which a raster's words are refused, or 0: counts, line list, path, flags.
-fn raster_fault(raster: RasterWords, lists: &[u8]) -> u8
-    ensures { λ r. ⌜ r ≡ firstCode (rasterRows (envOf (now (lists .entry))) raster) ⌝ }
+fn raster_fault(raster: RasterWords, lists: &[u8], k: u16) -> u8
+    ensures { λ r. ⌜ r ≡ firstCode (rasterRows (cardsOf (now (lists .entry))) raster k) ⌝ }
 {
     let counts = count_fault(raster);
     let list = list_fault(raster, lists);
-    let path = path_fault(raster);
+    let path = path_fault(raster, k);
     octets::refuse(
         counts != 0,
         counts,
@@ -249,10 +291,11 @@ fn raster_fault(raster: RasterWords, lists: &[u8]) -> u8
 
 // The code with which a run raster is refused, or 0.
 fn run_fault(text: &[u8], lists: &[u8], at: Place, held: Opened) -> u8
-    ensures { λ r. ⌜ r ≡ firstCode (runRows (envOf (now (lists .entry))) (now (text .entry)) (at .0) held) ⌝ }
+    ensures { λ r. ⌜ r ≡ firstCode (runRows (cardsOf (now (lists .entry))) (now (text .entry)) (at .0) held) ⌝ }
 {
     let raster = sequence::raster_at(text, at);
-    octets::refuse(held.elsewhere(at), 3, raster_fault(raster, lists))
+    let k = held.repeat_begun(raster.repeats);
+    octets::refuse(held.elsewhere(at), 3, raster_fault(raster, lists, k))
 }
 
 // The code with which an expose is refused, or 0.
@@ -261,7 +304,7 @@ fn expose_fault(text: &[u8], time: u16, held: Opened) -> u8
 {
     match held {
         Opened::Shut => 3,
-        Opened::Open(raster, count) => octets::refuse(
+        Opened::Open(raster, count, _) => octets::refuse(
             !sequence::raster_stands(text, raster),
             3,
             octets::refuse(
@@ -279,7 +322,7 @@ fn loop_fault(text: &[u8], at: Place, target: u8, held: Opened) -> u8
 {
     match held {
         Opened::Shut => 3,
-        Opened::Open(raster, count) => octets::refuse(
+        Opened::Open(raster, count, _) => octets::refuse(
             !sequence::raster_stands(text, raster),
             3,
             octets::refuse(
@@ -298,17 +341,14 @@ fn close_fault(text: &[u8], at: Place, held: Opened) -> u8
     octets::refuse(
         held.is_open(),
         3,
-        octets::refuse(
-            sequence::past(text, at) != sequence::limit(text) as usize,
-            3,
-            0,
-        ),
+        octets::refuse(sequence::past(text, at) != sequence::limit(text), 3, 0),
     )
 }
 
 // What the command at a place comes to.
 pub fn judge(text: &[u8], lists: &[u8], at: Place, held: Opened) -> Act
-    ensures { λ r. ⌜ r ≡ judge (envOf (now (lists .entry))) (now (text .entry)) (at .0) held ⌝ }
+    ensures { λ r. ⌜ r ≡ judge (cardsOf (now (lists .entry))) (now (text .entry)) (at .0) held ⌝ }
+    ensures { λ r. ⌜ at .0 + sizeAt (now (text .entry)) (at .0) < 256 ⌝ }
 {
     let command = sequence::command_at(text, at);
     match command {
@@ -319,6 +359,41 @@ pub fn judge(text: &[u8], lists: &[u8], at: Place, held: Opened) -> Act
         Command::Terminate => unless(close_fault(text, at, held), Act::Ends),
         Command::Delay(_) => Act::Waits,
         Command::Nothing | Command::Unknown | Command::Unfit => Act::Refused(3),
+    }
+}
+
+impl OpenRaster {
+    // One pass fewer, with a new set.
+    fn pass_over(self) -> OpenRaster
+        requires { ⌜ 1 < self .passes ⌝ }
+        ensures { λ r. ⌜ r ≡ withCount 0 (withPasses (self .passes - 1) self) ⌝ }
+    {
+        OpenRaster {
+            count: 0,
+            passes: self.passes - 1,
+            ..self
+        }
+    }
+
+    // One repeat fewer.
+    fn repeat_over(self) -> OpenRaster
+        requires { ⌜ 1 < self .repeats ⌝ }
+        ensures { λ r. ⌜ r ≡ withRepeats (self .repeats - 1) self ⌝ }
+    {
+        OpenRaster {
+            repeats: self.repeats - 1,
+            ..self
+        }
+    }
+
+    // No raster open, the counts as they were.
+    fn shut(self) -> OpenRaster
+        ensures { λ r. ⌜ r ≡ openAt 255 self ⌝ }
+    {
+        OpenRaster {
+            place: Runner::NONE,
+            ..self
+        }
     }
 }
 
@@ -333,27 +408,41 @@ impl Runner {
     pub const NONE: u8 = 255;
 
     // The raster that is open.
-    fn opened(self) -> Opened
-        ensures { λ r. ⌜ r ≡ openOf self ⌝ }
+    fn opened(self, format: Format) -> Opened
+        ensures { λ r. ⌜ r ≡ openOf format self ⌝ }
     {
-        match Place::of(self.raster) {
-            Placed::At(raster) => Opened::Open(raster, self.count),
+        let raster = self.raster;
+        if raster.place == Runner::NONE {
+            return Opened::Shut;
+        }
+        match Place::of(format, raster.place) {
+            Placed::At(place) => Opened::Open(place, raster.count, raster.repeats),
             Placed::Outside => Opened::Shut,
         }
     }
 
-    // Stopped with a code at a place, and nothing else changed.
-    fn aborted(self, code: u8, place: u8) -> Stepped
-        ensures { λ r. ⌜ r ≡ aborted code place self ⌝ }
+    // Stopped with a fault, and nothing else changed.
+    fn aborted(self, fault: Fault) -> Stepped
+        ensures { λ r. ⌜ r ≡ aborted fault self ⌝ }
     {
         Stepped {
-            event: Event::Abort(code, self.sequence, place),
+            event: Event::Abort(fault.code, self.sequence, fault.place),
             runner: Runner {
-                place,
+                place: fault.place,
                 running: false,
                 ..self
             },
         }
+    }
+
+    // Stopped with a code at the runner's own place.
+    fn refused(self, code: u8) -> Stepped
+        ensures { λ r. ⌜ r ≡ aborted (fault code (self .place)) self ⌝ }
+    {
+        self.aborted(Fault {
+            code,
+            place: self.place,
+        })
     }
 
     // The sequence entered, or why not.
@@ -361,7 +450,7 @@ impl Runner {
         ensures { λ r. ⌜ r ≡ entered (now (text .entry)) self ⌝ }
     {
         match sequence::header_of(text) {
-            Header::Fault { code, place } => self.aborted(code, place),
+            Header::Bad(fault) => self.aborted(fault),
             Header::Repeats(rounds) => Stepped {
                 event: Event::Enter(self.sequence),
                 runner: Runner {
@@ -374,34 +463,38 @@ impl Runner {
         }
     }
 
-    // The run raster at the place begun: its first repeat, or the next, which doesn't reload the repeats.
-    fn run_raster(self, text: &[u8], lists: &[u8], at: Place) -> Stepped
+    // The run raster at the place begun: its first repeat, or the next, which doesn't reload the repeats. Every repeat
+    // begins at the initial position.
+    fn run_raster(self, format: Format, text: &[u8], lists: &[u8], at: Place) -> Stepped
         requires { ⌜ (at .0 ≡ self .place) × Stands (now text) self Command.RunRaster ⌝ }
-        ensures { λ r. ⌜ r ≡ act 127 (now (text .entry)) self (unless (firstCode (runRows (envOf (now (lists .entry))) (now (text .entry)) (at .0) (openOf self))) Act.Opens) ⌝ }
+        ensures { λ r. ⌜ r ≡ act format (now (text .entry)) self (unless (firstCode (runRows (cardsOf (now (lists .entry))) (now (text .entry)) (at .0) (openOf format self))) Act.Opens) ⌝ }
     {
-        let held = self.opened();
+        let held = self.opened(format);
         let code = run_fault(text, lists, at, held);
         if code != 0 {
-            return self.aborted(code, self.place);
+            return self.refused(code);
         }
-        let initial = sequence::initial_at(text, at);
+        let k = held.repeat_begun(sequence::repeats_at(text, at));
+        let start = start_of(sequence::initial_at(text, at), k);
         Stepped {
             event: Event::Raster(
                 sequence::id_at(text, at),
-                initial,
+                start,
                 sequence::list_at(text, at),
             ),
             runner: Runner {
                 place: self.place + 23,
-                raster: self.place,
-                count: 0,
-                passes: sequence::loops_at(text, at),
-                repeats: if held.is_open() {
-                    self.repeats
-                } else {
-                    sequence::repeats_at(text, at)
+                raster: OpenRaster {
+                    place: self.place,
+                    count: 0,
+                    passes: sequence::loops_at(text, at),
+                    repeats: if held.is_open() {
+                        self.raster.repeats
+                    } else {
+                        sequence::repeats_at(text, at)
+                    },
                 },
-                mirror: initial,
+                mirror: start,
                 ..self
             },
         }
@@ -411,22 +504,25 @@ impl Runner {
     fn advances(self, text: &[u8], raster: Place) -> bool
         ensures { λ r. ⌜ r ≡ advances (rasterAt (now (text .entry)) (raster .0)) self ⌝ }
     {
-        if self.passes <= 1 {
+        if self.raster.passes <= 1 {
             return false;
         }
-        self.count as u16 + 1 == set_of(text, raster) as u16
+        self.raster.count as u16 + 1 == set_of(text, raster) as u16
     }
 
     // One exposure more, with the mirror where it stands after it.
     fn exposed(self, mirror: u16) -> Stepped
-        requires { ⌜ (self .place + 3 < 256) × (self .count < 255) ⌝ }
+        requires { ⌜ (self .place + 3 < 256) × (self .raster .count < 255) ⌝ }
         ensures { λ r. ⌜ r ≡ exposedAt (self .place + 3) mirror self ⌝ }
     {
         Stepped {
             event: Event::Exp(self.mirror),
             runner: Runner {
                 place: self.place + 3,
-                count: self.count + 1,
+                raster: OpenRaster {
+                    count: self.raster.count + 1,
+                    ..self.raster
+                },
                 mirror,
                 ..self
             },
@@ -434,54 +530,54 @@ impl Runner {
     }
 
     // An exposure in the open raster; where it fills the set and passes remain the mirror advances after it.
-    fn expose(self, text: &[u8], time: u16) -> Stepped
+    fn expose(self, format: Format, text: &[u8], time: u16) -> Stepped
         requires { ⌜ Stands (now text) self (Command.Expose time) ⌝ }
-        ensures { λ r. ⌜ r ≡ act 127 (now (text .entry)) self (unless (firstCode (exposeRows (now (text .entry)) time (openOf self))) (exposesIn (openOf self))) ⌝ }
+        ensures { λ r. ⌜ r ≡ act format (now (text .entry)) self (unless (firstCode (exposeRows (now (text .entry)) time (openOf format self))) (exposesIn (openOf format self))) ⌝ }
     {
-        let held = self.opened();
-        let Opened::Open(raster, _) = held else {
-            return self.aborted(3, self.place);
+        let held = self.opened(format);
+        let Opened::Open(raster, _, _) = held else {
+            return self.refused(3);
         };
         let code = expose_fault(text, time, held);
         if code != 0 {
-            return self.aborted(3, self.place);
+            return self.refused(3);
         }
         if !self.advances(text, raster) {
             return self.exposed(self.mirror);
         }
         let mirror = advanced(self.mirror, sequence::step_at(text, raster));
         if (Runner::END_STOP as u32) < mirror {
-            return self.aborted(14, self.place);
+            return self.refused(14);
         }
         self.exposed(mirror as u16)
     }
 
     // Another pass, another repeat, or the raster's end.
-    fn loop_back(self, text: &[u8], at: Place, target: u8) -> Stepped
+    fn loop_back(self, format: Format, text: &[u8], at: Place, target: u8) -> Stepped
         requires { ⌜ Stands (now text) self (Command.LoopBack target) ⌝ }
-        ensures { λ r. ⌜ r ≡ act 127 (now (text .entry)) self (unless (firstCode (loopRows (now (text .entry)) (at .0) target (openOf self))) (Act.Loops target)) ⌝ }
+        ensures { λ r. ⌜ r ≡ act format (now (text .entry)) self (unless (firstCode (loopRows (now (text .entry)) (at .0) target (openOf format self))) (Act.Loops target)) ⌝ }
     {
-        let code = loop_fault(text, at, target, self.opened());
+        let code = loop_fault(text, at, target, self.opened(format));
         if code != 0 {
-            return self.aborted(3, self.place);
+            return self.refused(3);
         }
-        if 1 < self.passes {
+        let raster = self.raster;
+        if 1 < raster.passes {
             return Stepped {
                 event: Event::Loop(target),
                 runner: Runner {
                     place: target,
-                    count: 0,
-                    passes: self.passes - 1,
+                    raster: raster.pass_over(),
                     ..self
                 },
             };
         }
-        if 1 < self.repeats {
+        if 1 < raster.repeats {
             return Stepped {
                 event: Event::Next,
                 runner: Runner {
-                    place: self.raster,
-                    repeats: self.repeats - 1,
+                    place: raster.place,
+                    raster: raster.repeat_over(),
                     ..self
                 },
             };
@@ -490,7 +586,7 @@ impl Runner {
             event: Event::Done,
             runner: Runner {
                 place: self.place + 2,
-                raster: Runner::NONE,
+                raster: raster.shut(),
                 ..self
             },
         }
@@ -526,18 +622,18 @@ impl Runner {
     }
 
     // Another round, or the called sequence made the status sequence, to be entered next.
-    fn call(self, text: &[u8], at: Place, n: u8) -> Stepped
-        ensures { λ r. ⌜ r ≡ act 127 (now (text .entry)) self (unless (firstCode (closeRows (now (text .entry)) (at .0) (openOf self))) (Act.Calls n)) ⌝ }
+    fn call(self, format: Format, text: &[u8], at: Place, n: u8) -> Stepped
+        ensures { λ r. ⌜ r ≡ act format (now (text .entry)) self (unless (firstCode (closeRows (now (text .entry)) (at .0) (openOf format self))) (Act.Calls n)) ⌝ }
     {
-        let code = close_fault(text, at, self.opened());
+        let code = close_fault(text, at, self.opened(format));
         if code != 0 {
-            return self.aborted(3, self.place);
+            return self.refused(3);
         }
         if 1 < self.rounds {
             return self.another();
         }
-        if memory::LAST_SEQUENCE < n {
-            return self.aborted(4, self.place);
+        if format.last < n {
+            return self.refused(4);
         }
         Stepped {
             event: Event::Call(n),
@@ -551,12 +647,12 @@ impl Runner {
     }
 
     // Another round, or the run's end.
-    fn terminate(self, text: &[u8], at: Place) -> Stepped
-        ensures { λ r. ⌜ r ≡ act 127 (now (text .entry)) self (unless (firstCode (closeRows (now (text .entry)) (at .0) (openOf self))) Act.Ends) ⌝ }
+    fn terminate(self, format: Format, text: &[u8], at: Place) -> Stepped
+        ensures { λ r. ⌜ r ≡ act format (now (text .entry)) self (unless (firstCode (closeRows (now (text .entry)) (at .0) (openOf format self))) Act.Ends) ⌝ }
     {
-        let code = close_fault(text, at, self.opened());
+        let code = close_fault(text, at, self.opened(format));
         if code != 0 {
-            return self.aborted(3, self.place);
+            return self.refused(3);
         }
         if 1 < self.rounds {
             return self.another();
@@ -571,31 +667,31 @@ impl Runner {
     }
 
     // The step in a text: entering, or the command at the place.
-    fn step_in(self, text: &[u8], lists: &[u8]) -> Stepped
-        requires { ⌜ length (now text) ≤ 128 ⌝ }
-        ensures { λ r. ⌜ r ≡ stepIn (envOf (now (lists .entry))) (now (text .entry)) self ⌝ }
+    fn step_in(self, format: Format, text: &[u8], lists: &[u8]) -> Stepped
+        requires { ⌜ length (now text) ≤ format .size ⌝ }
+        ensures { λ r. ⌜ r ≡ stepIn (envOf format (now (lists .entry))) (now (text .entry)) self ⌝ }
     {
         if self.entering {
             return self.enter(text);
         }
-        let Placed::At(at) = Place::of(self.place) else {
-            return self.aborted(3, self.place);
+        let Placed::At(at) = Place::of(format, self.place) else {
+            return self.refused(3);
         };
         let command = sequence::command_at(text, at);
         match command {
-            Command::RunRaster => self.run_raster(text, lists, at),
-            Command::Expose(time) => self.expose(text, time),
-            Command::LoopBack(target) => self.loop_back(text, at, target),
-            Command::CallSequence(n) => self.call(text, at, n),
-            Command::Terminate => self.terminate(text, at),
+            Command::RunRaster => self.run_raster(format, text, lists, at),
+            Command::Expose(time) => self.expose(format, text, time),
+            Command::LoopBack(target) => self.loop_back(format, text, at, target),
+            Command::CallSequence(n) => self.call(format, text, at, n),
+            Command::Terminate => self.terminate(format, text, at),
             Command::Delay(time) => self.delay(time),
-            Command::Nothing | Command::Unknown | Command::Unfit => self.aborted(3, self.place),
+            Command::Nothing | Command::Unknown | Command::Unfit => self.refused(3),
         }
     }
 
     // One step: idle when not running, else entering or one command.
-    pub fn step(self, seqs: &[u8], lists: &[u8]) -> Stepped
-        ensures { λ r. ⌜ r ≡ stepOf (envOf (now (lists .entry))) (now (seqs .entry)) self ⌝ }
+    pub fn step(self, format: Format, seqs: &[u8], lists: &[u8]) -> Stepped
+        ensures { λ r. ⌜ r ≡ stepOf (envOf format (now (lists .entry))) (now (seqs .entry)) self ⌝ }
     {
         if !self.running {
             return Stepped {
@@ -603,6 +699,6 @@ impl Runner {
                 runner: self,
             };
         }
-        self.step_in(memory::entry(seqs, self.sequence), lists)
+        self.step_in(format, memory::entry(format, seqs, self.sequence), lists)
     }
 }

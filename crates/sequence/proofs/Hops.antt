@@ -4,14 +4,14 @@ use Prim.Native.Nat.{ℕ, zero, suc, _+_, _≤_, _<_}
 use native.Mathlib.Nat.{zero-add, suc-add}
 use native.Mathlib.Omega.{arith}
 use mathlib.Core.Path.{_≡_, refl, sym, subst, _∙_}
-use mathlib.Core.Bool.{Bool, true, false, _&&_, _||_, false≢true}
+use mathlib.Core.Bool.{true, false, _&&_, false≢true}
 use mathlib.Core.List.{List}
 use lib.Dec.{ltb, leb, eqb}
 use borrow.Author.Tests.{ltb-true, leb-true, eqb-true, eqb-false, lt-ltb}
 use Rattle.octets.specs.Bytes.{byteAt}
+use Rattle.octets.proofs.Bools.{and-both, or-either, by-test}
 use Rattle.sequence.specs.Text.{sizeAt}
 use Rattle.sequence.specs.Starts.{starts, among, exposesBetween, firstExposure}
-use Rattle.sequence.proofs.Laws.{and-both, by-test}
 
 -- n commands stand from p up to q
 pub data Hops (text : List ℕ) : ℕ → ℕ → ℕ → Type 0 where
@@ -37,10 +37,6 @@ hops-from (hop y h) here l = let w = hops-le h in absurd (omega arith)
 hops-from (hop y h) (hop z g) l = hops-from h g l
 
 -- ── a start that was found
-pub or-either : {A : Type 0} (a b : Bool) → (a || b) ≡ true → (a ≡ true → A) → (b ≡ true → A) → A
-or-either true b e f g = f refl
-or-either false b e f g = g e
-
 pub start-hops : (text : List ℕ) (f p t : ℕ) → among t (starts text f p) ≡ true → (n : ℕ) × (Hops text p t n × (0 < sizeAt text t))
 unfolding among starts
 start-hops text zero p t h = absurd (false≢true h)

@@ -3,30 +3,20 @@
 use Prim.Native.Nat.{ℕ, zero, suc, _+_, _-_, _≤_, _<_}
 use native.Mathlib.Omega.{arith}
 use mathlib.Core.Path.{_≡_, refl, sym, ap, _∙_, subst}
-use mathlib.Core.Bool.{Bool, true, false, cond, not, _&&_, _||_, true≢false, false≢true}
+use mathlib.Core.Bool.{Bool, true, false, cond, not, _||_}
 use mathlib.Core.List.{List, [], _∷_}
 use mathlib.Core.Logic.{_⊎_, ⊎-elim, inl, inr}
 use lib.Dec.{ltb, leb, eqb}
 use lib.ListN.{length}
 use borrow.Author.Tests.{ltb-false, leb-true, leb-false, eqb-true, eqb-false, not-false, le-ltb, eq-eqb, ne-eqb}
 use Rattle.octets.specs.Bytes.{byteAt, wordAt}
+use Rattle.octets.proofs.Bools.{and-both, or-neither, by-test, choice}
 use Rattle.sequence.specs.declared.Command.{Command}
 use Rattle.sequence.specs.declared.Command.the-variants.{RunRaster, Expose, LoopBack, CallSequence, Terminate, Delay, Nothing, Unknown, Unfit}
-use Rattle.sequence.specs.Text.{limit, lengthGood, numberOf, sizeOf, ofNumber, decoded, noneThere, commandAt, sizeAt, isRunRaster}
+use Rattle.sequence.specs.Text.{limit, lengthGood, numberOf, CommandRow, commandTable, commandIn, sizeOf, decoded, noneThere, commandAt, sizeAt, isRunRaster}
 use Rattle.sequence.specs.Starts.{starts}
-
--- ── tests joined
-pub and-both : (a b : Bool) → (a && b) ≡ true → (a ≡ true) × (b ≡ true)
-and-both true b e = (refl, e)
-and-both false b e = absurd (false≢true e)
-
-pub or-neither : (a b : Bool) → (a || b) ≡ false → (a ≡ false) × (b ≡ false)
-or-neither true b e = absurd (true≢false e)
-or-neither false b e = (refl, e)
-
-pub by-test : {A : Type 0} (t : Bool) → (t ≡ true → A) → (t ≡ false → A) → A
-by-test true f g = f refl
-by-test false f g = g refl
+use Rattle.sequence.specs.declared.RasterWords.{RasterWords}
+use Rattle.sequence.specs.Raster.{reachOf, somePast, leaves}
 
 -- ── the checksum's place
 pub limit-below : (text : List ℕ) → lengthGood text ≡ true → limit text < length text
@@ -54,35 +44,21 @@ unfolding commandAt
 none-past text p h = by-test (noneThere text p) (λ e. rw e) (λ e. let w = some-there text p e in absurd (omega arith))
 
 -- ── the command of a number
--- what is shown of each of these commands, from its number
-abbrev pub Each : (Command → Type 0) → ℕ → List Command → Type 0
+-- what is shown of each row's command, from its number
+abbrev pub Each : (Command → Type 0) → ℕ → List CommandRow → Type 0
 Each P n [] = Unit {0}
-Each P n (k ∷ ks) = (n ≡ numberOf k → P k) × Each P n ks
-
--- the six commands, each with the operand that stands after this place
-abbrev pub six : List ℕ → ℕ → List Command
-six text p =
-    RunRaster
-    ∷ Expose (wordAt text (p + 1))
-    ∷ LoopBack (byteAt text (p + 1))
-    ∷ CallSequence (byteAt text (p + 1))
-    ∷ Terminate
-    ∷ Delay (wordAt text (p + 1))
-    ∷ []
+Each P n (r ∷ rs) = (n ≡ numberOf (r .command) → P (r .command)) × Each P n rs
 
 module _ (P : Command → Type 0) where
-  each : (n : ℕ) (ks : List Command) → ((k : Command) → n ≡ numberOf k → P k) → Each P n ks
+  each : (n : ℕ) (rs : List CommandRow) → ((k : Command) → n ≡ numberOf k → P k) → Each P n rs
   each n [] f = tt
-  each n (k ∷ ks) f = (f k, each n ks f)
+  each n (r ∷ rs) f = (f (r .command), each n rs f)
 
-  of-number : (n : ℕ) (ks : List Command) → (Each (λ k. ⊥) n ks → P Unknown) → Each P n ks → P (ofNumber n ks)
+  of-number : (n : ℕ) (rs : List CommandRow) → (Each (λ k. ⊥) n rs → P Unknown) → Each P n rs → P (commandIn n rs)
   of-number n [] u e = u tt
-  of-number n (k ∷ ks) u (f, e) =
-      choose (eqb n (numberOf k)) (λ t. f (eqb-true n (numberOf k) t)) (λ t. of-number n ks (λ s. u (eqb-false n (numberOf k) t, s)) e)
-    where
-      choose : {j : Command} (t : Bool) → (t ≡ true → P k) → (t ≡ false → P j) → P (cond t k j)
-      choose true x y = x refl
-      choose false x y = y refl
+  of-number n (r ∷ rs) u (f, e) =
+      let m = numberOf (r .command) in
+      choice P (eqb n m) (r .command) _ (λ t. f (eqb-true n m t)) (λ t. of-number n rs (λ s. u (eqb-false n m t, s)) e)
 
   ways : (n u x : Bool) (k : Command) → P Nothing → P Unknown → P Unfit → (n ≡ false → x ≡ false → P k)
       → P (cond n Nothing (cond u Unknown (cond x Unfit k)))
@@ -93,14 +69,14 @@ module _ (P : Command → Type 0) where
 
   -- what holds where no whole command stands, and of each command that stands whole, holds of what stands at a place
   pub of-command : (text : List ℕ) (p : ℕ) → P Nothing → P Unknown → P Unfit
-      → (Whole text p (sizeOf (byteAt text p)) → Each P (byteAt text p) (six text p)) → P (commandAt text p)
+      → (Whole text p (sizeOf (byteAt text p)) → Each P (byteAt text p) (commandTable text (p + 1))) → P (commandAt text p)
   unfolding commandAt decoded
   of-command text p a b c d =
       let n = byteAt text p in
       ways (noneThere text p) (eqb (sizeOf n) 0) (ltb (limit text) (p + sizeOf n)) (decoded text p) a b c
-      (λ e f. of-number n (six text p) (λ s. b) (let w = some-there text p e in d record { from = w .from; fits = ltb-false (limit text) (p + sizeOf n) f; inside = w .inside }))
+      (λ e f. of-number n (commandTable text (p + 1)) (λ s. b) (let w = some-there text p e in d record { from = w .from; fits = ltb-false (limit text) (p + sizeOf n) f; inside = w .inside }))
 
--- none of the six commands has this number
+-- no row has this number
 abbrev pub Strange : ℕ → Type 0
 Strange n = (((((Unit {0} × (n ≡ 0x90 → ⊥)) × (n ≡ 0x91 → ⊥)) × (n ≡ 0x92 → ⊥)) × (n ≡ 0x93 → ⊥)) × (n ≡ 0x94 → ⊥)) × (n ≡ 0x95 → ⊥)
 
@@ -114,7 +90,7 @@ size-zero = refl
 
 -- the command of a number
 abbrev pub numbered : List ℕ → ℕ → ℕ → Command
-numbered text p n = cond (eqb (sizeOf n) 0) Unknown (ofNumber n (six text p))
+numbered text p n = cond (eqb (sizeOf n) 0) Unknown (commandIn n (commandTable text (p + 1)))
 
 -- it stands where its bytes lie among the commands, and takes as many as its number says
 module _ (text : List ℕ) (p n : ℕ) where
@@ -127,8 +103,8 @@ module _ (text : List ℕ) (p n : ℕ) where
       by-test (eqb (sizeOf n) 0)
       (λ e. rw (e, eqb-true (sizeOf n) 0 e) (sym size-zero))
       (λ e. rw e
-      (of-number Sized n (six text p) (λ (a, (b, (c, (d, (f, (g, u)))))). sym size-zero ∙ size-strange n ((((((u, a), b), c), d), f), g))
-      (each Sized n (six text p) (λ k h. ap sizeOf (sym h)))))
+      (of-number Sized n (commandTable text (p + 1)) (λ (a, (b, (c, (d, (f, (g, u)))))). sym size-zero ∙ size-strange n ((((((u, a), b), c), d), f), g))
+      (each Sized n (commandTable text (p + 1)) (λ k h. ap sizeOf (sym h)))))
     where
       Sized : Command → Type 0
       Sized k = sizeOf (numberOf k) ≡ sizeOf n
@@ -164,10 +140,15 @@ module _ (text : List ℕ) (p : ℕ) where
   unfolding sizeAt sizeOf
   size-whole =
       of-command (Takes text p) text p (inl refl) (inl refl) (inl refl)
-      (λ w. each (Takes text p) (byteAt text p) (six text p) (λ k e. inr (subst (λ (n : ℕ). Whole text p (sizeOf n)) e w)))
+      (λ w. each (Takes text p) (byteAt text p) (commandTable text (p + 1)) (λ k e. inr (subst (λ (n : ℕ). Whole text p (sizeOf n)) e w)))
 
   pub size-inside : 0 < sizeAt text p → (p + sizeAt text p < length text) × (4 ≤ p)
   size-inside h = ⊎-elim (λ e. absurd (omega arith)) (λ w. (omega arith, w .from)) size-whole
+
+  -- the checksum's place is a byte, and so is the place past a command
+  pub size-below : byteAt text 0 < 256 → p < 256 → p + sizeAt text p < 256
+  unfolding limit
+  size-below b h = ⊎-elim (λ e. omega arith) (λ w. omega arith) size-whole
 
 -- a run raster stands where the number says so and a command stands whole
 pub raster-stands : (text : List ℕ) (p : ℕ) → isRunRaster (commandAt text p) ≡ cond (eqb (sizeAt text p) 0) false (eqb (byteAt text p) 0x90)
@@ -210,3 +191,13 @@ module _ (text : List ℕ) where
       let g : suc (length text - 1) ≡ length text = omega arith in
       starts-on (length text) p size (λ l. omega arith) e z
       ∙ ap (λ (ps : List ℕ). p ∷ ps) (sym (rw g at (starts-more (length text - 1) (p + size) (omega arith))))
+
+-- ── the path of a raster
+-- every repeat begins at the same place, so that one leaves the path where any does
+pub leaves-is : (raster : RasterWords) (k : ℕ) → leaves raster k ≡ ltb 2400 (reachOf raster k)
+unfolding somePast
+leaves-is raster k = of (raster .repeats)
+  where
+    of : (n : ℕ) → (somePast raster n || ltb 2400 (reachOf raster k)) ≡ ltb 2400 (reachOf raster k)
+    of zero = refl
+    of (suc n) = by-test (ltb 2400 (reachOf raster k)) (λ e. rw e) (λ e. rw e (rw e at (of n)))

@@ -14,8 +14,8 @@ use lib.ListN.{length, take, drop, length-take, drop-of-length-le}
 use lib.Seq.{getD-take, take-take}
 use borrow.Author.Tests.{eqb-true, eqb-false, ne-eqb}
 use Rattle.octets.specs.Bytes.{byteAt, xorOn, xorOf}
+use Rattle.octets.proofs.Bools.{by-test}
 use Rattle.sequence.specs.Text.{limit, xorGood}
-use Rattle.sequence.proofs.Laws.{by-test}
 
 -- ── XOR in another order
 digit : (P : ℕ → Type 0) → P 0 → P 1 → (n : ℕ) → P (n % 2)

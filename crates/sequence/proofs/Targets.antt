@@ -10,10 +10,11 @@ use lib.Dec.{leb, eqb}
 use lib.ListN.{length}
 use borrow.Author.Tests.{eqb-true, eqb-false, lt-ltb, le-ltb, le-leb, lt-leb, eq-eqb, ne-eqb}
 use Rattle.octets.specs.Bytes.{byteAt}
+use Rattle.octets.proofs.Bools.{or-either, by-test}
 use Rattle.sequence.specs.Text.{sizeAt}
 use Rattle.sequence.specs.Starts.{starts, among, exposesBetween, firstExposure}
-use Rattle.sequence.proofs.Laws.{by-test, starts-off, starts-from}
-use Rattle.sequence.proofs.Hops.{hops-le, or-either, start-hops, First, first-found}
+use Rattle.sequence.proofs.Laws.{starts-off, starts-from}
+use Rattle.sequence.proofs.Hops.{hops-le, start-hops, First, first-found}
 
 at-last : (s e a l : Bool) → ((s || e) ≡ true → l ≡ true) → (a ≡ true → l ≡ false) → ((s || (e || a)) && l) ≡ (s || e)
 at-last true e a l f g = f refl

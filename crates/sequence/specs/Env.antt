@@ -1,20 +1,22 @@
--- What a text is read in: the line lists' tests, the size of an entry and the last sequence's number. The base has one kind of table.
-use Prim.Native.Nat.{ℕ, _*_}
+-- What a text is read in: the format of the sequence table, and what is known of each line list.
+use Prim.Native.Nat.{ℕ}
 use mathlib.Core.List.{List}
-use lib.ListN.{take, drop}
-use Rattle.memory.specs.Memory.{listOf}
-use Rattle.sequence.specs.declared.ListTest.{ListTest}
-use Rattle.sequence.specs.LineList.{listTest}
+use Rattle.memory.specs.declared.Format.{Format}
+use Rattle.memory.specs.Memory.{entryOf, listOf}
+use Rattle.sequence.specs.declared.ListCard.{ListCard}
+use Rattle.sequence.specs.LineList.{listCard}
 
 pub record Env : Type 0 where
-  pub lists : ℕ → ListTest
-  pub size : ℕ
-  pub last : ℕ
+  pub format : Format
+  pub cards : ℕ → ListCard
 
--- "128 entries of 128 bytes"
-abbrev pub envOf : List ℕ → Env
-envOf lists = record { lists = λ n. listTest (listOf lists n); size = 128; last = 127 }
+-- the card of each line list of a table
+abbrev pub cardsOf : List ℕ → ℕ → ListCard
+cardsOf lists n = listCard (listOf lists n)
+
+abbrev pub envOf : Format → List ℕ → Env
+envOf F lists = record { format = F; cards = cardsOf lists }
 
 -- sequence n's own bytes
 abbrev pub textOf : Env → List ℕ → ℕ → List ℕ
-textOf E seqs n = take (E .size) (drop (n * E .size) seqs)
+textOf E seqs n = entryOf (E .format) seqs n

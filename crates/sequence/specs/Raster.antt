@@ -1,8 +1,8 @@
 -- A raster's fields from its eleven words, and the test of its science flags.
-use Prim.Native.Nat.{ℕ, _+_, _*_, _-_, _/_, _%_}
-use mathlib.Core.Bool.{Bool}
+use Prim.Native.Nat.{ℕ, zero, suc, _+_, _*_, _-_, _/_, _%_}
+use mathlib.Core.Bool.{Bool, false, _||_}
 use mathlib.Core.List.{List}
-use lib.Dec.{leb}
+use lib.Dec.{ltb, leb}
 use Rattle.octets.specs.Bytes.{byteAt, wordAt}
 use Rattle.sequence.specs.declared.RasterWords.{RasterWords}
 
@@ -46,3 +46,12 @@ startOf raster k = raster .initial
 -- where the last pass of repeat k stands
 abbrev pub reachOf : RasterWords → ℕ → ℕ
 reachOf raster k = startOf raster k + (raster .loops - 1) * raster .step
+
+-- "initial + (loops - 1) x step above 2400", in one of the first n repeats
+unfoldable pub somePast : RasterWords → ℕ → Bool
+somePast raster zero = false
+somePast raster (suc k) = ltb 2400 (reachOf raster k) || somePast raster k
+
+-- in any repeat, or in repeat k, which is begun
+abbrev pub leaves : RasterWords → ℕ → Bool
+leaves raster k = somePast raster (raster .repeats) || ltb 2400 (reachOf raster k)

@@ -5,7 +5,7 @@ use mathlib.Core.List.{List, [], _∷_}
 use lib.Dec.{ltb, leb, eqb}
 use lib.ListN.{length}
 use Rattle.octets.specs.Bytes.{byteAt}
-use Rattle.sequence.specs.Text.{sizeAt}
+use Rattle.sequence.specs.Text.{sizeAt, commandAt, isRunRaster}
 
 -- the places at which commands start, counted on from p: at most as many as the text has bytes
 unfoldable pub starts : List ℕ → ℕ → ℕ → List ℕ
@@ -14,6 +14,11 @@ starts text (suc f) p = cond (eqb (sizeAt text p) 0) [] (p ∷ starts text f (p 
 
 unfoldable pub startsOf : List ℕ → List ℕ
 startsOf text = starts text (length text) 4
+
+-- the run rasters among these places
+abbrev pub rastersAmong : List ℕ → List ℕ → List ℕ
+rastersAmong text [] = []
+rastersAmong text (p ∷ ps) = cond (isRunRaster (commandAt text p)) (p ∷ rastersAmong text ps) (rastersAmong text ps)
 
 unfoldable pub among : ℕ → List ℕ → Bool
 among t [] = false

@@ -8,8 +8,9 @@ use Rattle.octets.specs.Bytes.{byteAt, wordAt, xorOf}
 use Rattle.octets.specs.Rows.{Row, row, firstCode}
 use Rattle.sequence.specs.declared.Command.{Command}
 use Rattle.sequence.specs.declared.Command.the-variants.{RunRaster, Expose, LoopBack, CallSequence, Terminate, Delay, Nothing, Unknown, Unfit}
+use Rattle.sequence.specs.declared.Fault.{Fault}
 use Rattle.sequence.specs.declared.Header.{Header}
-use Rattle.sequence.specs.declared.Header.the-variants.{Repeats, Fault}
+use Rattle.sequence.specs.declared.Header.the-variants.{Repeats, Bad}
 
 -- "byte 0 length 6 to 128": an entry's size is the length of its text
 unfoldable pub lengthGood : List ℕ → Bool
@@ -23,6 +24,10 @@ limit text = byteAt text 0 - 1
 unfoldable pub xorGood : List ℕ → Bool
 xorGood text = eqb (xorOf (take (limit text) text)) (byteAt text (limit text))
 
+-- a fault is a code at a place
+abbrev pub fault : ℕ → ℕ → Fault
+fault code place = record { code = code; place = place }
+
 -- "bad length or XOR, code 2 at place 0; then repeats 0, code 10 at place 3"
 unfoldable pub headerRows : List ℕ → List Row
 headerRows text = row 2 (not (lengthGood text)) ∷ row 2 (not (xorGood text)) ∷ row 10 (eqb (byteAt text 3) 0) ∷ []
@@ -31,7 +36,7 @@ abbrev pub headerPlace : ℕ → ℕ
 headerPlace code = cond (eqb code 10) 3 0
 
 abbrev pub headerBy : ℕ → ℕ → Header
-headerBy repeats code = cond (eqb code 0) (Repeats repeats) (Fault code (headerPlace code))
+headerBy repeats code = cond (eqb code 0) (Repeats repeats) (Bad (fault code (headerPlace code)))
 
 unfoldable pub headerOf : List ℕ → Header
 headerOf text = headerBy (byteAt text 3) (firstCode (headerRows text))
@@ -48,33 +53,41 @@ numberOf Nothing = 0
 numberOf Unknown = 0
 numberOf Unfit = 0
 
--- "90 run raster (23 bytes), 91 expose (word: time, not 0), 92 loop back (byte: place), 93 call (byte), 94 terminate, 95 delay (word, any)"
-unfoldable pub sizeOf : ℕ → ℕ
-sizeOf n =
-    cond (eqb n 0x90) 23
-    (cond (eqb n 0x91) 3
-    (cond (eqb n 0x92) 2
-    (cond (eqb n 0x93) 2
-    (cond (eqb n 0x94) 1
-    (cond (eqb n 0x95) 3
-    0)))))
+-- "90 run raster (23 bytes), 91 expose (word: time, not 0), 92 loop back (byte: place), 93 call (byte), 94 terminate, 95 delay (word, any)":
+-- a command with its operand, and the bytes that it takes
+pub record CommandRow : Type 0 where
+  pub command : Command
+  pub bytes : ℕ
 
--- the one of these commands that has this number
-abbrev pub ofNumber : ℕ → List Command → Command
-ofNumber n [] = Unknown
-ofNumber n (k ∷ ks) = cond (eqb n (numberOf k)) k (ofNumber n ks)
+abbrev pub takes : Command → ℕ → CommandRow
+takes command bytes = record { command = command; bytes = bytes }
+
+-- the rows, with the operands that stand at a place
+abbrev pub commandTable : List ℕ → ℕ → List CommandRow
+commandTable text at =
+    takes RunRaster 23
+    ∷ takes (Expose (wordAt text at)) 3
+    ∷ takes (LoopBack (byteAt text at)) 2
+    ∷ takes (CallSequence (byteAt text at)) 2
+    ∷ takes Terminate 1
+    ∷ takes (Delay (wordAt text at)) 3
+    ∷ []
+
+-- the bytes, and the command, of the row with this number; a number that has no row takes none
+abbrev pub sizeIn : ℕ → List CommandRow → ℕ
+sizeIn n [] = 0
+sizeIn n (r ∷ rs) = cond (eqb n (numberOf (r .command))) (r .bytes) (sizeIn n rs)
+
+abbrev pub commandIn : ℕ → List CommandRow → Command
+commandIn n [] = Unknown
+commandIn n (r ∷ rs) = cond (eqb n (numberOf (r .command))) (r .command) (commandIn n rs)
+
+unfoldable pub sizeOf : ℕ → ℕ
+sizeOf n = sizeIn n (commandTable [] 0)
 
 -- the command of the number at a place, with its operand
 unfoldable pub decoded : List ℕ → ℕ → Command
-decoded text p =
-    ofNumber (byteAt text p)
-    (RunRaster
-    ∷ Expose (wordAt text (p + 1))
-    ∷ LoopBack (byteAt text (p + 1))
-    ∷ CallSequence (byteAt text (p + 1))
-    ∷ Terminate
-    ∷ Delay (wordAt text (p + 1))
-    ∷ [])
+decoded text p = commandIn (byteAt text p) (commandTable text (p + 1))
 
 -- "No command there (also: place below 4, or length byte not 6 to 128)"
 unfoldable pub noneThere : List ℕ → ℕ → Bool

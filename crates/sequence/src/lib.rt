@@ -7,10 +7,10 @@ ghost use mathlib.Core.List.{_++_};
 ghost use lib.Dec.{eqb, leb};
 ghost use lib.ListN.{length, take, drop};
 ghost use Rattle.octets.specs.Bytes.{byteAt, wordAt, xorOf};
-ghost use Rattle.sequence.specs.Text.{limit, lengthGood, xorGood, headerOf, sizeOf, sizeAt, noneThere, commandAt, isRunRaster};
+ghost use Rattle.sequence.specs.Text.{limit, lengthGood, xorGood, headerOf, numberOf, sizeOf, sizeAt, noneThere, commandAt, isRunRaster};
 ghost use Rattle.sequence.specs.Starts.{among, starts, firstExposure, targetGood};
 ghost use Rattle.sequence.specs.Raster.{rasterAt, flagsGood};
-ghost use Rattle.sequence.specs.LineList.{listTest};
+ghost use Rattle.sequence.specs.LineList.{listCard};
 use memory::Place;
 
 // What stands at a place of a text: a command with its operand, or none there, one of an unknown number, or one that does not fit.
@@ -48,16 +48,22 @@ pub struct RasterWords {
     pub science: u8,
 }
 
+// Why a run stops: a code at a place.
+pub struct Fault {
+    pub code: u8,
+    pub place: u8,
+}
+
 // What the test of an entry finds: its repeats, or why it can't be entered.
 pub enum Header {
     Repeats(u8),
-    Fault { code: u8, place: u8 },
+    Bad(Fault),
 }
 
-// What the test of a line list finds.
-pub enum ListTest {
+// What is known of a line list.
+pub enum ListCard {
     Good,
-    Bad,
+    Wrong,
 }
 
 // A place as an index into a text.
@@ -122,14 +128,14 @@ pub fn header_of(text: &[u8]) -> Header
     ensures { λ r. ⌜ r ≡ headerOf (now (text .entry)) ⌝ }
 {
     if !length_good(text) {
-        return Header::Fault { code: 2, place: 0 };
+        return Header::Bad(Fault { code: 2, place: 0 });
     }
     if !xor_good(text) {
-        return Header::Fault { code: 2, place: 0 };
+        return Header::Bad(Fault { code: 2, place: 0 });
     }
     let repeats = octets::byte(text, 3);
     if repeats == 0 {
-        return Header::Fault { code: 10, place: 3 };
+        return Header::Bad(Fault { code: 10, place: 3 });
     }
     Header::Repeats(repeats)
 }
@@ -191,6 +197,7 @@ fn command_from(text: &[u8], at: usize) -> Command
 // The command at a place.
 pub fn command_at(text: &[u8], at: Place) -> Command
     ensures { λ r. ⌜ r ≡ commandAt (now (text .entry)) (at .0) ⌝ }
+    ensures { λ r. ⌜ at .0 + sizeOf (numberOf r) < 256 ⌝ }
 {
     command_from(text, index(at))
 }
@@ -292,25 +299,25 @@ pub fn flags_good(science: u8) -> bool
     science / 32 % 2 + science / 16 % 2 + science / 8 % 2 + science / 4 % 2 <= 1
 }
 
-// The test of a line list: windows, length, checksum.
-pub fn list_test(list: &[u8]) -> ListTest
-    ensures { λ r. ⌜ r ≡ listTest (now (list .entry)) ⌝ }
+// A line list's card: windows, length, checksum.
+pub fn list_card(list: &[u8]) -> ListCard
+    ensures { λ r. ⌜ r ≡ listCard (now (list .entry)) ⌝ }
 {
     let len = octets::byte(list, 0);
     let windows = octets::byte(list, 2);
     if windows < 1 {
-        return ListTest::Bad;
+        return ListCard::Wrong;
     }
     if 25 < windows {
-        return ListTest::Bad;
+        return ListCard::Wrong;
     }
     if len != 14 + 6 * windows {
-        return ListTest::Bad;
+        return ListCard::Wrong;
     }
     if sum_good(octets::part(list, 0, len as usize), 3) {
-        ListTest::Good
+        ListCard::Good
     } else {
-        ListTest::Bad
+        ListCard::Wrong
     }
 }
 
@@ -341,11 +348,11 @@ pub fn raster_stands(text: &[u8], at: Place) -> bool
 }
 
 // The place past the command at a place, or the place itself where none stands there whole.
-pub fn past(text: &[u8], at: Place) -> usize
+pub fn past(text: &[u8], at: Place) -> u8
     ensures { λ r. ⌜ r ≡ at .0 + sizeAt (now (text .entry)) (at .0) ⌝ }
 {
     let place = index(at);
-    place + size_at(text, place)
+    (place + size_at(text, place)) as u8
 }
 
 // Whether t is a command's start at or before the first exposure before q, both counted on from a place past the raster.

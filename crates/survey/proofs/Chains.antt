@@ -10,23 +10,25 @@ use lib.Dec.{eqb}
 use lib.ListN.{length, getD, set, take, replicate, length-set, length-append, length-reverse, getD-replicate}
 use lib.Seq.{getD-set-same, getD-set-other, set-at, append-snoc, take-all}
 use borrow.Author.Tests.{eq-eqb, ne-eqb, lt-ltb, le-ltb}
-use Rattle.memory.specs.Memory.{tablesWrong, entryOf}
+use Rattle.memory.specs.declared.Format.{Format}
+use Rattle.memory.specs.Memory.{Fair, tablesWrong, entryOf}
 use Rattle.memory.proofs.Laws.{entry-short}
+use Rattle.sequence.specs.declared.Fault.{Fault}
 use Rattle.sequence.specs.Starts.{among}
-use Rattle.sequence.specs.Env.{Env, envOf, textOf}
+use Rattle.sequence.specs.Env.{envOf}
 use Rattle.survey.specs.declared.Closing.{Closing}
 use Rattle.survey.specs.declared.Closing.the-variants.{Terminates, CallsOn}
 use Rattle.survey.specs.declared.Walked.{Walked}
-use Rattle.survey.specs.declared.Walked.the-variants.{Fault, Closed}
+use Rattle.survey.specs.declared.Walked.the-variants.{Faulty, Closed}
 use Rattle.survey.specs.declared.Ending.{Ending}
-use Rattle.survey.specs.declared.Ending.the-variants.{Unlisted, Finishes, Returns, Faulty}
+use Rattle.survey.specs.declared.Ending.the-variants.{Unlisted, Finishes, Returns, Faults}
 use Rattle.survey.specs.declared.Chain.{Chain}
 use Rattle.survey.specs.declared.Checked.{Checked}
 use Rattle.survey.specs.declared.Report.{Report}
-use Rattle.survey.specs.Walk.{Finding, passes, faults, checkOne}
+use Rattle.survey.specs.Walk.{Finding, passes, faults, checkOne, findingOf}
 use Rattle.survey.specs.Chain.{Told, told, total, front, onward, follow, chainOf, checkRows, checkOf}
 use Rattle.survey.specs.Report.{padded, reportOf, walkedOf}
-use Rattle.survey.specs.Held.{AtMost, unmarked, Kept, Free, Is, LowCall, joined, ahead, emptyChain, reported}
+use Rattle.survey.specs.Held.{AtMost, unmarked, Marked, Free, Is, LowCall, joined, ahead, emptyChain, reported}
 use Rattle.survey.proofs.Totals.{Octets, part-octets}
 use Rattle.survey.proofs.Laws.{one-most, one-low}
 
@@ -42,8 +44,8 @@ unmarked-set (false ∷ ms) (suc n) h e = ap suc (unmarked-set ms n (le-of-suc-l
 
 -- ── a sequence more
 -- listed and marked
-abbrev pub entered : Chain → ℕ → Chain
-entered chain n =
+abbrev pub listedWith : Chain → ℕ → Chain
+listedWith chain n =
     record {
       listed = set (chain .listed) (chain .count) n;
       marks = set (chain .marks) n true;
@@ -73,7 +75,7 @@ module _ (chain : Chain) (n : ℕ) (free : Free chain n) where
       let d : 128 - length (names ++ n ∷ []) ≡ 127 - length names = simp length-append (omega arith) in
       rw (e, d) (set-at names 0 (replicate (127 - length names) 0) n (length names) refl ∙ sym (append-snoc names n (replicate (127 - length names) 0)))
 
-  pub is-entered : (names : List ℕ) → Is chain names → Is (entered chain n) (n ∷ names)
+  pub is-entered : (names : List ℕ) → Is chain names → Is (listedWith chain n) (n ∷ names)
   unfolding among
   is-entered names is =
       let l : length (reverse names) ≡ length names = length-reverse names in
@@ -93,7 +95,7 @@ total-join : (e : Ending) (a k s : ℕ) → total e a (total e k s) ≡ total e 
 total-join (Unlisted code) a k s = refl
 total-join Finishes a k s = sym (add-assoc a k s)
 total-join Returns a k s = sym (add-assoc a k s)
-total-join (Faulty code n p) a k s = refl
+total-join (Faults n f) a k s = refl
 
 -- the names so far and one sequence in front of the rest are the names with that sequence, and the rest
 joined-front : (names : List ℕ) (a b n k x : ℕ) (t : Told) → joined names a b (front n k x t) ≡ joined (n ∷ names) (a + k) (b + x) t
@@ -102,15 +104,15 @@ joined-front names a b n k x t =
 
 -- what was found of sequence n, and where its closing command leads
 abbrev stepsIn : Walked → ℕ
-stepsIn (Fault p code) = 0
+stepsIn (Faulty f) = 0
 stepsIn (Closed p c k x) = k
 
 abbrev exposuresOf : Walked → ℕ
-exposuresOf (Fault p code) = 0
+exposuresOf (Faulty f) = 0
 exposuresOf (Closed p c k x) = x
 
 abbrev leads : (ℕ → Told) → ℕ → Walked → Told
-leads go n (Fault p code) = told [] (Faulty code n p) 0 0
+leads go n (Faulty f) = told [] (Faults n f) 0 0
 leads go n (Closed p c k x) = ahead go c
 
 onward-leads : (go : ℕ → Told) (n : ℕ) (found : Finding)
@@ -118,7 +120,7 @@ onward-leads : (go : ℕ → Told) (n : ℕ) (found : Finding)
 unfolding onward
 onward-leads go n (passes k x is p Terminates) = rw (add-zero k, add-zero x)
 onward-leads go n (passes k x is p (CallsOn m)) = refl
-onward-leads go n (faults p code) = refl
+onward-leads go n (faults f) = refl
 
 -- ── the report of a chain that ends here
 abbrev pub checked : Chain → Ending → Checked
@@ -130,27 +132,27 @@ unfolding reported reportOf
 end-said chain names is e = rw (append-nil (reverse names), length-reverse names, is .list, is .count)
 
 -- ── each way out of a closing command
-follow-back : (E : Env) (seqs : List ℕ) (f : ℕ) (names : List ℕ) (m : ℕ) → among m names ≡ true → follow E seqs f names m ≡ told [] Returns 0 0
+follow-back : (found : ℕ → Finding) (f : ℕ) (names : List ℕ) (m : ℕ) → among m names ≡ true → follow found f names m ≡ told [] Returns 0 0
 unfolding follow
-follow-back E seqs zero names m e = refl
-follow-back E seqs (suc f) names m e = rw e
+follow-back found zero names m e = refl
+follow-back found (suc f) names m e = rw e
 
 -- what is reported, given what stands ahead of the names so far
 abbrev Reports : Chain → (List ℕ → Told) → Checked → Type 0
 Reports chain rest r = (names : List ℕ) → Is chain names → reported r ≡ reportOf (joined names (chain .steps) (chain .exposures) (rest names))
 
-module _ (E : Env) (seqs : List ℕ) (chain : Chain) (c : Closing) where
-  pub close-stop : c ≡ Terminates → Reports chain (λ names. ahead (follow E seqs (unmarked (chain .marks)) names) c) (checked chain Finishes)
+module _ (found : ℕ → Finding) (chain : Chain) (c : Closing) where
+  pub close-stop : c ≡ Terminates → Reports chain (λ names. ahead (follow found (unmarked (chain .marks)) names) c) (checked chain Finishes)
   close-stop e names is = rw e (end-said chain names is Finishes)
 
   module _ (m : ℕ) (e : c ≡ CallsOn m) where
     pub close-back : m < 128 → getD (chain .marks) m false ≡ true
-        → Reports chain (λ names. ahead (follow E seqs (unmarked (chain .marks)) names) c) (checked chain Returns)
+        → Reports chain (λ names. ahead (follow found (unmarked (chain .marks)) names) c) (checked chain Returns)
     close-back l q names is =
-        rw (e, follow-back E seqs (unmarked (chain .marks)) names m (sym (is .marks m l) ∙ q)) (end-said chain names is Returns)
+        rw (e, follow-back found (unmarked (chain .marks)) names m (sym (is .marks m l) ∙ q)) (end-said chain names is Returns)
 
-    pub close-next : (r : Checked) → Reports chain (λ names. follow E seqs (unmarked (chain .marks)) names m) r
-        → Reports chain (λ names. ahead (follow E seqs (unmarked (chain .marks)) names) c) r
+    pub close-next : (r : Checked) → Reports chain (λ names. follow found (unmarked (chain .marks)) names m) r
+        → Reports chain (λ names. ahead (follow found (unmarked (chain .marks)) names) c) r
     close-next r h names is = rw e (h names is)
 
 -- ── each way out of a sequence
@@ -159,44 +161,48 @@ abbrev left : Chain → ℕ → ℕ
 left chain n = unmarked (set (chain .marks) n true)
 
 -- sequence n is not listed yet, and w was found of its text
-pub record Visit (lists seqs : List ℕ) (chain : Chain) (n : ℕ) (w : Walked) : Type 0 where
+pub record Visit (F : Format) (lists seqs : List ℕ) (chain : Chain) (n : ℕ) (w : Walked) : Type 0 where
+  pub fair : Fair F
   pub octets : Octets seqs
   pub free : Free chain n
-  pub found : w ≡ walkedOf (checkOne (envOf lists) (entryOf seqs n))
+  pub found : w ≡ walkedOf (findingOf (envOf F lists) seqs n)
 
-pub of-entry : (lists seqs : List ℕ) (n : ℕ) (w : Walked) (text : List ℕ) → text ≡ entryOf seqs n → w ≡ walkedOf (checkOne (envOf lists) (take 128 text))
-    → w ≡ walkedOf (checkOne (envOf lists) (entryOf seqs n))
-of-entry lists seqs n w text et ew = let s = entry-short seqs n in rw (et, take-all 128 (entryOf seqs n) s) at ew
+pub of-entry : (F : Format) (lists seqs : List ℕ) (n : ℕ) (w : Walked) (text : List ℕ) → text ≡ entryOf F seqs n
+    → w ≡ walkedOf (checkOne (envOf F lists) (take (F .size) text)) → w ≡ walkedOf (findingOf (envOf F lists) seqs n)
+of-entry F lists seqs n w text et ew = rw (et, take-all (F .size) (entryOf F seqs n) (entry-short F seqs n)) at ew
 
-module _ {lists seqs : List ℕ} {chain : Chain} {n : ℕ} {w : Walked} (v : Visit lists seqs chain n w) where
-  turned : (names : List ℕ) → Is chain names → (a b : ℕ) → joined names a b (follow (envOf lists) seqs (unmarked (chain .marks)) names n)
-      ≡ joined (n ∷ names) (a + stepsIn w) (b + exposuresOf w) (leads (follow (envOf lists) seqs (left chain n) (n ∷ names)) n w)
+module _ {F : Format} {lists seqs : List ℕ} {chain : Chain} {n : ℕ} {w : Walked} (v : Visit F lists seqs chain n w) where
+  abbrev found : ℕ → Finding
+  found = findingOf (envOf F lists) seqs
+
+  turned : (names : List ℕ) → Is chain names → (a b : ℕ) → joined names a b (follow found (unmarked (chain .marks)) names n)
+      ≡ joined (n ∷ names) (a + stepsIn w) (b + exposuresOf w) (leads (follow found (left chain n) (n ∷ names)) n w)
   unfolding follow
   turned names is a b =
-      let go : ℕ → Told = follow (envOf lists) seqs (left chain n) (n ∷ names) in
+      let go : ℕ → Told = follow found (left chain n) (n ∷ names) in
       let new : among n names ≡ false = sym (is .marks n (v .free .low)) ∙ v .free .new in
-      rw (one-fewer chain n (v .free), new, onward-leads go n (checkOne (envOf lists) (entryOf seqs n)), ← v .found)
+      rw (one-fewer chain n (v .free), new, onward-leads go n (found n), ← v .found)
       (joined-front names a b n (stepsIn w) (exposuresOf w) (leads go n w))
 
-  pub seq-fault : (p code : ℕ) → w ≡ Fault p code
-      → Reports chain (λ names. follow (envOf lists) seqs (unmarked (chain .marks)) names n) (checked (entered chain n) (Faulty code n p))
-  seq-fault p code e names is =
+  pub seq-fault : (f : Fault) → w ≡ Faulty f
+      → Reports chain (λ names. follow found (unmarked (chain .marks)) names n) (checked (listedWith chain n) (Faults n f))
+  seq-fault f e names is =
       rw (turned names is (chain .steps) (chain .exposures), e)
-      (end-said (entered chain n) (n ∷ names) (is-entered chain n (v .free) names is) (Faulty code n p))
+      (end-said (listedWith chain n) (n ∷ names) (is-entered chain n (v .free) names is) (Faults n f))
 
   module _ (p k x : ℕ) (c : Closing) (e : w ≡ Closed p c k x) where
     most : (k ≤ 2 ^ 54) × (x ≤ 2 ^ 54)
     most =
         subst (AtMost (2 ^ 54)) e
-        (one-most (envOf lists) (entryOf seqs n) w (v .found) (part-octets seqs (n * 128) 128 (v .octets)) (entry-short seqs n))
+        (one-most (envOf F lists) (entryOf F seqs n) w (v .found) (part-octets seqs (n * F .size) (F .size) (v .octets)) (omega (arith, entry-short F seqs n, v .fair .size)))
 
     pub next-low : LowCall c
-    next-low = one-low (envOf lists) (entryOf seqs n) w (v .found) refl p k x c e
+    next-low = one-low (envOf F lists) (entryOf F seqs n) w (v .found) (v .fair .last) p k x c e
 
     pub next-fits : (chain .steps + k < 2 ^ 64) × (chain .exposures + x < 2 ^ 64)
     next-fits = omega (arith, most, room chain n (v .free), v .free .kept .steps-fit, v .free .kept .exposures-fit)
 
-    pub next-kept : Kept (added (entered chain n) k x)
+    pub next-kept : Marked (added (listedWith chain n) k x)
     next-kept =
         record {
           listed-long = length-set (chain .listed) (chain .count) n ∙ v .free .kept .listed-long;
@@ -209,8 +215,8 @@ module _ {lists seqs : List ℕ} {chain : Chain} {n : ℕ} {w : Walked} (v : Vis
     pub next-fewer : left chain n + left chain n + 1 < unmarked (chain .marks) + unmarked (chain .marks)
     next-fewer = omega (arith, one-fewer chain n (v .free))
 
-    pub seq-next : (r : Checked) → Reports (added (entered chain n) k x) (λ names. ahead (follow (envOf lists) seqs (left chain n) names) c) r
-        → Reports chain (λ names. follow (envOf lists) seqs (unmarked (chain .marks)) names n) r
+    pub seq-next : (r : Checked) → Reports (added (listedWith chain n) k x) (λ names. ahead (follow found (left chain n) names) c) r
+        → Reports chain (λ names. follow found (unmarked (chain .marks)) names n) r
     seq-next r h names is =
         let i = is-entered chain n (v .free) names is in
         rw (turned names is (chain .steps) (chain .exposures), e)
@@ -220,7 +226,7 @@ module _ {lists seqs : List ℕ} {chain : Chain} {n : ℕ} {w : Walked} (v : Vis
 marks-start : (n : ℕ) → n < 128 → getD (emptyChain .marks) n false ≡ false
 marks-start n l = getD-replicate 128 n false false l
 
-kept-start : Kept emptyChain
+kept-start : Marked emptyChain
 unfolding unmarked
 kept-start = record { listed-long = refl; marks-long = refl; all = refl; steps-fit = zero-le; exposures-fit = zero-le }
 
@@ -245,28 +251,30 @@ onward-whole go n found false =
     let w = walkedOf found in
     rw (onward-leads go n found) (joined-none n (stepsIn w) (exposuresOf w) (leads go n w))
 
-follow-whole : (E : Env) (seqs : List ℕ) (f : ℕ) (names : List ℕ) (n : ℕ) → joined [] 0 0 (follow E seqs f names n) ≡ follow E seqs f names n
+follow-whole : (found : ℕ → Finding) (f : ℕ) (names : List ℕ) (n : ℕ) → joined [] 0 0 (follow found f names n) ≡ follow found f names n
 unfolding follow
-follow-whole E seqs zero names n = refl
-follow-whole E seqs (suc f) names n =
-    onward-whole (λ m. follow E seqs f (n ∷ names) m) n (checkOne E (textOf E seqs n)) (among n names)
+follow-whole found zero names n = refl
+follow-whole found (suc f) names n =
+    onward-whole (λ m. follow found f (n ∷ names) m) n (found n) (among n names)
 
-module _ (seqs lists : List ℕ) (n : ℕ) (start : Chain) (es : start ≡ emptyChain) (wrong : Bool) (ew : wrong ≡ tablesWrong seqs lists) (r : Report) where
+module _ (F : Format) (seqs lists : List ℕ) (n : ℕ) (start : Chain) (es : start ≡ emptyChain) (wrong : Bool) (ew : wrong ≡ tablesWrong seqs lists) (r : Report) where
   nothing-said : (code : ℕ) → reported (checked start (Unlisted code)) ≡ reportOf (told [] (Unlisted code) 0 0)
   unfolding reported reportOf padded
   nothing-said code = rw es
 
-  pub check-wrong : wrong ≡ true → r ≡ reported (checked start (Unlisted 16)) → r ≡ reportOf (checkOf seqs lists n)
+  pub check-wrong : wrong ≡ true → r ≡ reported (checked start (Unlisted 16)) → r ≡ reportOf (checkOf F seqs lists n)
   unfolding checkOf checkRows
   check-wrong t h = rw (← ew, t) (h ∙ nothing-said 16)
 
-  pub check-high : wrong ≡ false → 127 < n → r ≡ reported (checked start (Unlisted 7)) → r ≡ reportOf (checkOf seqs lists n)
+  pub check-high : wrong ≡ false → F .last < n → r ≡ reported (checked start (Unlisted 7)) → r ≡ reportOf (checkOf F seqs lists n)
   unfolding checkOf checkRows
-  check-high t l h = rw (← ew, t, lt-ltb 127 n l) (h ∙ nothing-said 7)
+  check-high t l h = rw (← ew, t, lt-ltb (F .last) n l) (h ∙ nothing-said 7)
 
-  pub check-runs : wrong ≡ false → n ≤ 127 → (d : Checked)
-      → Reports start (λ names. follow (envOf lists) seqs (unmarked (start .marks)) names n) d → r ≡ reported d → r ≡ reportOf (checkOf seqs lists n)
+  pub check-runs : F .last ≡ 127 → wrong ≡ false → n ≤ F .last → (d : Checked)
+      → Reports start (λ names. follow (findingOf (envOf F lists) seqs) (unmarked (start .marks)) names n) d → r ≡ reported d → r ≡ reportOf (checkOf F seqs lists n)
   unfolding checkOf checkRows chainOf unmarked
-  check-runs t l d h er =
+  check-runs full t l d h er =
       let i : Is start [] = rw es is-start in
-      rw (← ew, t, le-ltb 127 n l) (er ∙ (rw es at (h [] i)) ∙ ap reportOf (follow-whole (envOf lists) seqs 128 [] n))
+      let found = findingOf (envOf F lists) seqs in
+      rw (← ew, t, le-ltb (F .last) n l)
+      (er ∙ (rw es at (h [] i)) ∙ ap reportOf (follow-whole found 128 [] n ∙ ap (λ (last : ℕ). follow found (suc last) [] n) (sym full)))

@@ -1,69 +1,78 @@
 -- Laws of the walk of one text: one for each way out of its functions, with the callees' contracts as premises. Assumes nothing.
 use Prim.Native.Nat.{ℕ, zero, suc, _+_, _*_, _-_, _≤_, _<_, _^_}
 use native.Mathlib.Nat.{add-zero, zero-add, add-assoc}
-use native.Mathlib.Numerals.{add-one}
 use native.Mathlib.Omega.{arith}
 use mathlib.Core.Path.{_≡_, refl, sym, ap, _∙_, subst}
 use mathlib.Core.Bool.{Bool, true, false, cond}
 use mathlib.Core.List.{List}
-use lib.Dec.{ltb}
+use lib.Dec.{ltb, eqb}
 use lib.ListN.{length, take, length-take}
-use borrow.Author.Tests.{ltb-true, ltb-false, eq-eqb, ne-eqb}
+use borrow.Author.Tests.{ltb-true, ltb-false, eqb-true, not-false, eq-eqb, ne-eqb}
+use Rattle.octets.specs.Rows.{firstCode}
+use Rattle.octets.proofs.Laws.{none-holds}
+use Rattle.octets.proofs.Bools.{choice}
+use Rattle.memory.specs.declared.Format.{Format}
 use Rattle.memory.specs.declared.Place.{Place}
 use Rattle.memory.specs.declared.Placed.{Placed}
 use Rattle.memory.specs.declared.Placed.the-variants.{At, Outside}
-use Rattle.memory.specs.Memory.{placeAt, placeOf}
+use Rattle.memory.specs.Memory.{Fair, placeAt, placeOf}
+use Rattle.sequence.specs.declared.Command.{Command}
+use Rattle.sequence.specs.declared.Command.the-variants.{RunRaster, Expose, LoopBack, CallSequence, Terminate, Delay, Nothing, Unknown, Unfit}
 use Rattle.sequence.specs.declared.Header.{Header}
-use Rattle.sequence.specs.declared.Header.the-variants.{Repeats, Fault as HeaderFault}
-use Rattle.sequence.specs.Text.{sizeOf, sizeAt, headerOf}
+use Rattle.sequence.specs.declared.Header.the-variants.{Repeats, Bad}
+use Rattle.sequence.specs.declared.Fault.{Fault}
+use Rattle.sequence.specs.declared.ListCard.{ListCard}
+use Rattle.sequence.specs.Text.{fault, sizeOf, sizeAt, commandAt, headerOf}
+use Rattle.sequence.specs.Starts.{targetGood}
 use Rattle.sequence.specs.Raster.{rasterAt}
 use Rattle.sequence.specs.Env.{Env}
-use Rattle.sequence.proofs.Laws.{none-past}
+use Rattle.sequence.proofs.Laws.{none-past, Bytes, command-bytes}
+use Rattle.sequence.proofs.Hops.{Hops, here, hop}
 use Rattle.runner.specs.declared.Opened.{Opened}
 use Rattle.runner.specs.declared.Opened.the-variants.{Shut, Open}
 use Rattle.runner.specs.declared.Act.{Act}
 use Rattle.runner.specs.declared.Act.the-variants.{Refused, Opens, Exposes, Loops, Waits, Calls, Ends}
-use Rattle.runner.specs.Judge.{judged, judge}
-use Rattle.runner.proofs.Laws.{next-fits}
+use Rattle.runner.specs.Judge.{runRows, exposeRows, loopRows, closeRows, unless, exposesIn, judged, judge}
 use Rattle.survey.specs.declared.Item.{Item}
 use Rattle.survey.specs.declared.Item.the-variants.{Pause}
 use Rattle.survey.specs.declared.Closing.{Closing}
 use Rattle.survey.specs.declared.Closing.the-variants.{Terminates, CallsOn}
 use Rattle.survey.specs.declared.Walked.{Walked}
-use Rattle.survey.specs.declared.Walked.the-variants.{Fault, Closed}
+use Rattle.survey.specs.declared.Walked.the-variants.{Faulty, Closed}
 use Rattle.survey.specs.declared.Round.{Round}
 use Rattle.survey.specs.Items.{itemSteps, itemExposures}
-use Rattle.survey.specs.Walk.{Finding, passes, faults, inFront, between, scan, walked, walk, rounds, checkOne}
+use Rattle.survey.specs.Walk.{Finding, passes, faults, inFront, oneMore, walked, walk, rounds, checkOne}
 use Rattle.survey.specs.Report.{walkedOf}
-use Rattle.survey.specs.Held.{opened, exposedIn, waitedIn, loopedIn, exposuresIn, Fits, allRounds, AtMost, LowCall}
+use Rattle.survey.specs.Held.{moved, RoomFor, exposuresIn, pauseIn, between, countedScan, loopedIn, allRounds, AtMost, LowCall}
 use Rattle.survey.proofs.Names.{Low, low-one}
-use Rattle.survey.proofs.Totals.{Octets, part-octets, narrow, steps-most, exposures-most, Sized, sized, between-most, Small, small-more, walk-small, one-small}
+use Rattle.survey.proofs.Counts.{between-most, Reached, reached-start, reached-on, scan-counted}
+use Rattle.survey.proofs.Totals.{Octets, part-octets, narrow, steps-most, exposures-most, Small, small-more, walk-small, one-small}
 
 -- ── places
 -- a number that passed a place's range test is that place's
-pub placed-at : (number : ℕ) (r : Placed) (at : Place) → r ≡ placeOf number → r ≡ At at → (number < 128) × (at ≡ placeAt number)
-placed-at number r at e g = by (ltb number 128) refl (sym e ∙ g)
-  where
-    by : (t : Bool) → ltb number 128 ≡ t → cond t (At (placeAt number)) Outside ≡ At at → (number < 128) × (at ≡ placeAt number)
-    by true l h = (ltb-true number 128 l, cc)
-    by false l h = let z : _≡_ {A = ℕ} 0 1 = cc in absurd (omega arith)
+module _ (F : Format) (number : ℕ) (r : Placed) (e : r ≡ placeOf F number) where
+  pub placed-at : (at : Place) → r ≡ At at → (number < F .size) × (at ≡ placeAt number)
+  placed-at at g = by (ltb number (F .size)) refl (sym e ∙ g)
+    where
+      by : (t : Bool) → ltb number (F .size) ≡ t → cond t (At (placeAt number)) Outside ≡ At at → (number < F .size) × (at ≡ placeAt number)
+      by true l h = (ltb-true number (F .size) l, cc)
+      by false l h = let z : _≡_ {A = ℕ} 0 1 = cc in absurd (omega arith)
 
-pub placed-outside : (number : ℕ) (r : Placed) → r ≡ placeOf number → r ≡ Outside → 128 ≤ number
-placed-outside number r e g = by (ltb number 128) refl (sym e ∙ g)
-  where
-    by : (t : Bool) → ltb number 128 ≡ t → cond t (At (placeAt number)) Outside ≡ Outside → 128 ≤ number
-    by true l h = let z : _≡_ {A = ℕ} 0 1 = cc in absurd (omega arith)
-    by false l h = ltb-false number 128 l
+  pub placed-outside : r ≡ Outside → F .size ≤ number
+  placed-outside g = by (ltb number (F .size)) refl (sym e ∙ g)
+    where
+      by : (t : Bool) → ltb number (F .size) ≡ t → cond t (At (placeAt number)) Outside ≡ Outside → F .size ≤ number
+      by true l h = let z : _≡_ {A = ℕ} 0 1 = cc in absurd (omega arith)
+      by false l h = ltb-false number (F .size) l
 
--- the place past the command at the place of a number
-pub past-of : (text : List ℕ) (number : ℕ) (r : Placed) (at : Place) (q : ℕ) → r ≡ placeOf number → r ≡ At at → q ≡ at .0 + sizeAt text (at .0)
-    → q ≡ number + sizeAt text number
-past-of text number r at q e g h = h ∙ ap (λ (x : Place). x .0 + sizeAt text (x .0)) (placed-at number r at e g .1)
+  -- the place past the command at the place of a number
+  pub past-of : (text : List ℕ) (at : Place) (q : ℕ) → r ≡ At at → q ≡ at .0 + sizeAt text (at .0) → q ≡ number + sizeAt text number
+  past-of text at q g h = h ∙ ap (λ (x : Place). x .0 + sizeAt text (x .0)) (placed-at at g .1)
 
 -- no command stands past an entry's end
-pub none-outside : (text : List ℕ) (p : ℕ) → length text ≤ 128 → 128 ≤ p → sizeAt text p ≡ 0
+pub none-outside : (text : List ℕ) (p : ℕ) → length text ≤ p → sizeAt text p ≡ 0
 unfolding sizeAt sizeOf
-none-outside text p short h = let l : length text ≤ p = omega arith in rw (none-past text p l)
+none-outside text p h = rw (none-past text p h)
 
 -- ── the commands up to a target, n of them counted so far
 module _ (text : List ℕ) (most t b : ℕ) where
@@ -93,214 +102,276 @@ module _ (text : List ℕ) (most t b : ℕ) where
 -- ── a round, without its items
 -- steps and exposures in front of what was found after them
 abbrev pub atop : ℕ → ℕ → Walked → Walked
-atop k x (Fault p code) = Fault p code
+atop k x (Faulty f) = Faulty f
 atop k x (Closed p c steps exposures) = Closed p c (k + steps) (x + exposures)
 
 atop-none : (w : Walked) → atop 0 0 w ≡ w
-atop-none (Fault p code) = refl
+atop-none (Faulty f) = refl
 atop-none (Closed p c k x) = rw (zero-add k, zero-add x)
 
 atop-atop : (a b k x : ℕ) (w : Walked) → atop a b (atop k x w) ≡ atop (a + k) (b + x) w
-atop-atop a b k x (Fault p code) = refl
+atop-atop a b k x (Faulty f) = refl
 atop-atop a b k x (Closed p c steps exposures) = rw (add-assoc a k steps, add-assoc b x exposures)
 
 walked-front : (text : List ℕ) (i : Item) (a b : ℕ) (found : Finding)
     → atop a b (walkedOf (inFront text i found)) ≡ atop (a + itemSteps text i) (b + itemExposures text i) (walkedOf found)
 walked-front text i a b (passes k x is p c) = atop-atop a b (itemSteps text i) (itemExposures text i) (Closed p c k x)
-walked-front text i a b (faults p code) = refl
+walked-front text i a b (faults f) = refl
 
 most-of : (most : ℕ) (found : Finding) → Small most found → AtMost most (walkedOf found)
 most-of most (passes k x is p c) s = s
-most-of most (faults p code) s = tt
+most-of most (faults f) s = tt
 
 -- ── where the walk stands with so many commands left to look at
 -- what is found from here on, atop of the sums so far
-abbrev found : Env → List ℕ → ℕ → Round → Walked
-found E text left r = atop (r .steps) (r .exposures) (walkedOf (walk E text left (r .place) (r .held) (r .since)))
+abbrev found : (ℕ → ListCard) → List ℕ → ℕ → Round → Walked
+found cards text left r = atop (r .steps) (r .exposures) (walkedOf (walk cards text left (r .place) (r .held)))
 
 -- what is found from place 4
-abbrev whole : Env → List ℕ → Walked
-whole E text = walkedOf (walk E text (length text) 4 Shut 0)
+abbrev whole : (ℕ → ListCard) → List ℕ → Walked
+whole cards text = walkedOf (walk cards text (length text) 4 Shut)
+
+-- a loop back at q to t that passes has an open raster, and a good target
+abbrev pub Aims : List ℕ → ℕ → ℕ → Opened → Type 0
+Aims text q t Shut = ⊥
+Aims text q t (Open r c left) = targetGood text (r .0) q t ≡ true
+
+-- what a judgement tells of the command at its place: its size, and of a loop back its target
+abbrev pub Sized : List ℕ → ℕ → Opened → Act → Type 0
+Sized text p o (Refused code) = Unit {0}
+Sized text p o Opens = sizeAt text p ≡ 23
+Sized text p o (Exposes r) = sizeAt text p ≡ 3
+Sized text p o (Loops t) = (sizeAt text p ≡ 2) × (t ≤ 255) × Aims text p t o
+Sized text p o Waits = sizeAt text p ≡ 3
+Sized text p o (Calls n) = sizeAt text p ≡ 2
+Sized text p o Ends = sizeAt text p ≡ 1
+
+sized-unless : (text : List ℕ) (p : ℕ) (o : Opened) (code : ℕ) (a : Act) → (eqb code 0 ≡ true → Sized text p o a) → Sized text p o (unless code a)
+sized-unless text p o code a s = choice (Sized text p o) (eqb code 0) a (Refused code) s (λ _. tt)
+
+module _ (cards : ℕ → ListCard) (text : List ℕ) (oct : Octets text) where
+  sized-judged : (p : ℕ) (o : Opened) (k : Command) → commandAt text p ≡ k → Bytes text p k → Sized text p o (judged cards text p o k)
+  unfolding judged sizeAt sizeOf loopRows
+  sized-judged p o RunRaster e b = sized-unless text p o (firstCode (runRows cards text p o)) Opens (λ _. rw e)
+  sized-judged p Shut (Expose time) e b = sized-unless text p Shut (firstCode (exposeRows text time Shut)) (exposesIn Shut) (λ _. tt)
+  sized-judged p (Open r c left) (Expose time) e b = sized-unless text p (Open r c left) (firstCode (exposeRows text time (Open r c left))) (exposesIn (Open r c left)) (λ _. rw e)
+  sized-judged p Shut (LoopBack t) e b = tt
+  sized-judged p (Open r c left) (LoopBack t) e b =
+      let rows = loopRows text p t (Open r c left) in
+      sized-unless text p (Open r c left) (firstCode rows) (Loops t)
+      (λ z. (rw e, omega (arith, b .1, oct (p + 1)), not-false (targetGood text (r .0) p t) (none-holds rows tt (eqb-true (firstCode rows) 0 z) .1 .1 .0)))
+  sized-judged p o (CallSequence n) e b = sized-unless text p o (firstCode (closeRows text p o)) (Calls n) (λ _. rw e)
+  sized-judged p o Terminate e b = sized-unless text p o (firstCode (closeRows text p o)) Ends (λ _. rw e)
+  sized-judged p o (Delay time) e b = rw e
+  sized-judged p o Nothing e b = tt
+  sized-judged p o Unknown e b = tt
+  sized-judged p o Unfit e b = tt
+
+  pub sized : (p : ℕ) (o : Opened) → Sized text p o (judge cards text p o)
+  unfolding judge
+  sized p o = sized-judged p o (commandAt text p) refl (command-bytes text p)
 
 -- no count passes its number's width
 pub record Within (left : ℕ) (r : Round) : Type 0 where
-  pub room : r .since + left ≤ 128
-  pub counted : exposuresIn (r .held) ≤ r .since
+  pub counted : exposuresIn (r .held) + 4 ≤ r .place
   pub steps : r .steps + left * 2 ^ 37 ≤ 2 ^ 46
   pub exposures : r .exposures + left * 2 ^ 37 ≤ 2 ^ 46
 
-pub record Going (E : Env) (text : List ℕ) (left : ℕ) (r : Round) : Type 0 where
-  pub same : found E text left r ≡ whole E text
+pub record Going (cards : ℕ → ListCard) (text : List ℕ) (left : ℕ) (r : Round) : Type 0 where
+  pub same : found cards text left r ≡ whole cards text
   pub within : Within left r
+  pub reached : Reached text (r .place) (r .held)
 
-abbrev round : ℕ → Opened → ℕ → ℕ → ℕ → Round
-round p o n k x = record { place = p; held = o; since = n; steps = k; exposures = x }
+abbrev round : ℕ → Opened → ℕ → ℕ → Round
+round p o k x = record { place = p; held = o; steps = k; exposures = x }
 
-pub going-start : (E : Env) (text : List ℕ) → length text ≤ 128 → Going E text (length text) (round 4 Shut 0 0 0)
-going-start E text short =
+pub going-start : (cards : ℕ → ListCard) (text : List ℕ) → length text ≤ 256 → Going cards text (length text) (round 4 Shut 0 0)
+going-start cards text short =
     record {
-      same = atop-none (whole E text);
-      within = record { room = omega arith; counted = omega arith; steps = omega arith; exposures = omega arith };
+      same = atop-none (whole cards text);
+      within = record { counted = omega arith; steps = omega arith; exposures = omega arith };
+      reached = (0, here);
     }
 
 -- the round past the command of an act, where the walk goes on
-abbrev pub past : List ℕ → Place → Round → Act → Round
-past text at r (Refused code) = r
-past text at r Opens = opened at r
-past text at r (Exposes o) = exposedIn (r .held) r
-past text at r (Loops t) = loopedIn text t (r .held) r
-past text at r Waits = waitedIn (r .held) r
-past text at r (Calls n) = r
-past text at r Ends = r
+abbrev pub roundPast : List ℕ → Place → Round → Act → Round
+roundPast text at r (Refused code) = r
+roundPast text at r Opens = moved 23 (Open at 0 (rasterAt text (at .0) .repeats)) 0 0 r
+roundPast text at r (Exposes o) = moved 3 (oneMore (r .held)) 0 0 r
+roundPast text at r (Loops t) = loopedIn text t (r .held) r
+roundPast text at r Waits = moved 3 (r .held) (pauseIn (r .held)) 0 r
+roundPast text at r (Calls n) = r
+roundPast text at r Ends = r
+
+pub pause-most : (o : Opened) → pauseIn o ≤ 2 ^ 37
+pause-most Shut = omega arith
+pause-most (Open r c left) = omega arith
 
 -- what an act comes to with f commands left after it
-abbrev pub comes : Env → List ℕ → ℕ → Place → Round → Act → Walked
-comes E text f at r (Refused code) = Fault (r .place) code
-comes E text f at r Opens = found E text f (past text at r Opens)
-comes E text f at r (Exposes o) = found E text f (past text at r (Exposes o))
-comes E text f at r (Loops t) = found E text f (past text at r (Loops t))
-comes E text f at r Waits = found E text f (past text at r Waits)
-comes E text f at r (Calls m) = Closed (r .place) (CallsOn m) (r .steps + 1) (r .exposures)
-comes E text f at r Ends = Closed (r .place) Terminates (r .steps + 1) (r .exposures)
+abbrev pub comes : (ℕ → ListCard) → List ℕ → ℕ → Place → Round → Act → Walked
+comes cards text f at r (Refused code) = Faulty (fault code (r .place))
+comes cards text f at r Opens = found cards text f (roundPast text at r Opens)
+comes cards text f at r (Exposes o) = found cards text f (roundPast text at r (Exposes o))
+comes cards text f at r (Loops t) = found cards text f (roundPast text at r (Loops t))
+comes cards text f at r Waits = found cards text f (roundPast text at r Waits)
+comes cards text f at r (Calls m) = Closed (r .place) (CallsOn m) (r .steps + 1) (r .exposures)
+comes cards text f at r Ends = Closed (r .place) Terminates (r .steps + 1) (r .exposures)
 
-module _ (E : Env) (text : List ℕ) (f p n k x : ℕ) where
-  comes-so : (o : Opened) (a : Act) → Sized text p a
-      → atop k x (walkedOf (walked text (λ p′ o′ n′. walk E text f p′ o′ n′) p o n a)) ≡ comes E text f (placeAt p) (round p o n k x) a
+module _ (cards : ℕ → ListCard) (text : List ℕ) (f p k x : ℕ) where
+  comes-so : (o : Opened) (a : Act) → Sized text p o a → Reached text p o
+      → atop k x (walkedOf (walked text (λ p′ o′. walk cards text f p′ o′) p o a)) ≡ comes cards text f (placeAt p) (round p o k x) a
   unfolding walked
-  comes-so o (Refused code) s = refl
-  comes-so o Opens s = rw s
-  comes-so Shut (Exposes r) s = rw s
-  comes-so (Open r c) (Exposes r′) s = rw (s, add-one n)
-  comes-so Shut (Loops t) s = rw (s .0)
-  comes-so (Open r c) (Loops t) s = rw (s .0) (walked-front text (scan text (r .0) t p n) k x (walk E text f (p + 2) Shut 0))
-  comes-so Shut Waits s = rw s (walked-front text (Pause p) k x (walk E text f (p + 3) Shut 0) ∙ rw (add-zero x))
-  comes-so (Open r c) Waits s = rw (s, add-one n)
-  comes-so o (Calls m) s = rw (add-zero x)
-  comes-so o Ends s = rw (add-zero x)
+  comes-so o (Refused code) s h = refl
+  comes-so o Opens s h = rw (s, add-zero k, add-zero x)
+  comes-so o (Exposes r) s h = rw (s, add-zero k, add-zero x)
+  comes-so Shut (Loops t) s h = absurd (s .2)
+  comes-so (Open r c m) (Loops t) (s, b, g) ((i, hr), (n, hp)) =
+      rw (s, scan-counted text (r .0) t p i n hr hp (omega arith) g) (walked-front text (countedScan text (r .0) t p) k x (walk cards text f (p + 2) Shut))
+  comes-so Shut Waits s h = rw s (walked-front text (Pause p) k x (walk cards text f (p + 3) Shut))
+  comes-so (Open r c m) Waits s h = rw (s, add-zero k, add-zero x)
+  comes-so o (Calls m) s h = rw (add-zero x)
+  comes-so o Ends s h = rw (add-zero x)
 
-module _ (text : List ℕ) (f p n k x : ℕ) (oct : Octets text) where
-  within-past : (o : Opened) (a : Act) → Sized text p a → Within (suc f) (round p o n k x) → Within f (past text (placeAt p) (round p o n k x) a)
-  within-past o (Refused code) s w = record { room = omega arith; counted = w .counted; steps = omega arith; exposures = omega arith }
-  within-past o Opens s w = record { room = omega arith; counted = omega arith; steps = omega arith; exposures = omega arith }
-  within-past Shut (Exposes r) s w = record { room = omega arith; counted = omega arith; steps = omega arith; exposures = omega arith }
-  within-past (Open r c) (Exposes r′) s w = record { room = omega arith; counted = omega arith; steps = omega arith; exposures = omega arith }
-  within-past Shut (Loops t) s w = record { room = omega arith; counted = omega arith; steps = omega arith; exposures = omega arith }
-  within-past (Open r c) (Loops t) s w =
-      let b = between-most text t (r .0 + sizeAt text (r .0)) t in
+  -- the walk stands past a command of this size
+  moves : (o : Opened) (n : ℕ) → sizeAt text p ≡ n → 0 < n → Reached text p o → Reached text (p + n) o
+  moves o n s z h = rw s at (reached-on text p o h (omega arith))
+
+  reached-past : (o : Opened) (a : Act) → Sized text p o a → Reached text p o
+      → Reached text (roundPast text (placeAt p) (round p o k x) a .place) (roundPast text (placeAt p) (round p o k x) a .held)
+  reached-past o (Refused code) s h = h
+  reached-past o Opens s h = let g : Hops text p (p + sizeAt text p) 1 = hop {p = p} (omega arith) here in (reached-start text p o h, (0, rw s at g))
+  reached-past Shut (Exposes r) s h = moves Shut 3 s (omega arith) h
+  reached-past (Open r c m) (Exposes r′) s h = moves (Open r c m) 3 s (omega arith) h
+  reached-past Shut (Loops t) s h = absurd (s .2)
+  reached-past (Open r c m) (Loops t) s h = moves Shut 2 (s .0) (omega arith) (reached-start text p (Open r c m) h)
+  reached-past o Waits s h = moves o 3 s (omega arith) h
+  reached-past o (Calls m) s h = h
+  reached-past o Ends s h = h
+
+module _ (text : List ℕ) (f p k x : ℕ) (oct : Octets text) (low : p < 256) where
+  within-past : (o : Opened) (a : Act) → Sized text p o a → Within (suc f) (round p o k x) → Within f (roundPast text (placeAt p) (round p o k x) a)
+  within-past o (Refused code) s w = record { counted = w .counted; steps = omega arith; exposures = omega arith }
+  within-past o Opens s w = record { counted = omega arith; steps = omega arith; exposures = omega arith }
+  within-past Shut (Exposes r) s w = record { counted = omega arith; steps = omega arith; exposures = omega arith }
+  within-past (Open r c m) (Exposes r′) s w = record { counted = omega arith; steps = omega arith; exposures = omega arith }
+  within-past Shut (Loops t) s w = absurd (s .2)
+  within-past (Open r c m) (Loops t) s w =
       let before = between text t (r .0 + sizeAt text (r .0)) t in
+      let from = between text p t p in
+      let b = between-most text t (r .0 + sizeAt text (r .0)) t in
+      let d = between-most text p t p in
       let v = narrow text (r .0) oct in
-      let y = steps-most (rasterAt text (r .0)) v before (n - before) (omega arith) (omega arith) in
+      let y = steps-most (rasterAt text (r .0)) v before from (omega arith) (omega arith) in
       let z = exposures-most (rasterAt text (r .0)) v in
-      record { room = omega arith; counted = omega arith; steps = omega arith; exposures = omega arith }
-  within-past Shut Waits s w = record { room = omega arith; counted = omega arith; steps = omega arith; exposures = omega arith }
-  within-past (Open r c) Waits s w = record { room = omega arith; counted = omega arith; steps = omega arith; exposures = omega arith }
-  within-past o (Calls m) s w = record { room = omega arith; counted = w .counted; steps = omega arith; exposures = omega arith }
-  within-past o Ends s w = record { room = omega arith; counted = w .counted; steps = omega arith; exposures = omega arith }
+      record { counted = omega arith; steps = omega arith; exposures = omega arith }
+  within-past Shut Waits s w = record { counted = omega arith; steps = omega arith; exposures = omega arith }
+  within-past (Open r c m) Waits s w = record { counted = omega arith; steps = omega arith; exposures = omega arith }
+  within-past o (Calls m) s w = record { counted = w .counted; steps = omega arith; exposures = omega arith }
+  within-past o Ends s w = record { counted = w .counted; steps = omega arith; exposures = omega arith }
 
 -- ── each way out of the walk, and on
-module _ (E : Env) (text : List ℕ) (left : ℕ) (r : Round) (g : Going E text left r) where
+module _ (cards : ℕ → ListCard) (text : List ℕ) (left : ℕ) (r : Round) (g : Going cards text left r) where
   -- nothing is left to look at, or the number is no place of the text
-  pub going-none : left ≡ 0 → Fault (r .place) 3 ≡ whole E text
+  pub going-none : left ≡ 0 → Faulty (fault 3 (r .place)) ≡ whole cards text
   unfolding walk
   going-none e = rw e at (g .same)
 
-  pub going-outside : length text ≤ 128 → 128 ≤ r .place → Fault (r .place) 3 ≡ whole E text
+  pub going-outside : length text ≤ r .place → Faulty (fault 3 (r .place)) ≡ whole cards text
   unfolding walk walked judge judged
-  going-outside short h = by left (g .same)
+  going-outside beyond = by left (g .same)
     where
-      beyond : length text ≤ r .place
-      beyond = omega arith
-
-      by : (f : ℕ) → found E text f r ≡ whole E text → Fault (r .place) 3 ≡ whole E text
+      by : (f : ℕ) → found cards text f r ≡ whole cards text → Faulty (fault 3 (r .place)) ≡ whole cards text
       by zero e = e
       by (suc f) e = rw (none-past text (r .place) beyond) at e
 
 -- the judgement of the command at the round's place, with some left to look at
-pub record Turn (E : Env) (text : List ℕ) (left : ℕ) (r : Round) (at : Place) (a : Act) : Type 0 where
-  pub going : Going E text left r
+pub record Turn (F : Format) (cards : ℕ → ListCard) (text : List ℕ) (left : ℕ) (r : Round) (at : Place) (a : Act) : Type 0 where
+  pub going : Going cards text left r
   pub octets : Octets text
-  pub short : length text ≤ 128
   pub some : 0 < left
-  pub here : (r .place < 128) × (at ≡ placeAt (r .place))
-  pub judged : a ≡ judge E text (at .0) (r .held)
+  pub fair : Fair F
+  pub here : (r .place < F .size) × (at ≡ placeAt (r .place))
+  pub fits : at .0 + sizeAt text (at .0) < 256
+  pub judged : a ≡ judge cards text (at .0) (r .held)
 
-module _ {E : Env} {text : List ℕ} {left : ℕ} {r : Round} {at : Place} {a : Act} (t : Turn E text left r at a) where
-  pub going-fits : (size : ℕ) → size ≤ sizeAt text (r .place) → Fits size r
-  going-fits size b =
-      let h = next-fits text (r .place) (t .short) (omega arith) in
+module _ {F : Format} {cards : ℕ → ListCard} {text : List ℕ} {left : ℕ} {r : Round} {at : Place} {a : Act} (t : Turn F cards text left r at a) where
+  pub going-fits : (size steps exposures : ℕ) → size ≤ sizeAt text (r .place) → steps ≤ 2 ^ 37 → exposures ≤ 2 ^ 37 → RoomFor size steps exposures r
+  going-fits size steps exposures b k x =
+      let h : r .place + sizeAt text (r .place) < 256 = rw (t .here .1) at (t .fits) in
       let w = t .going .within in
-      record { place = omega arith; since = omega arith; counted = w .counted; steps = omega arith; exposures = omega arith }
+      record { place = omega arith; steps = omega arith; exposures = omega arith }
 
   module _ (x : Act) (e : a ≡ x) where
-    is : judge E text (r .place) (r .held) ≡ x
+    is : judge cards text (r .place) (r .held) ≡ x
     is = rw (t .here .1) at (sym (t .judged) ∙ e)
 
-    pub told : Sized text (r .place) x
-    told = rw is at (sized E text (t .octets) (r .place) (r .held))
+    pub told : Sized text (r .place) (r .held) x
+    told = rw is at (sized cards text (t .octets) (r .place) (r .held))
 
-    pub comes-whole : comes E text (left - 1) at r x ≡ whole E text
+    pub comes-whole : comes cards text (left - 1) at r x ≡ whole cards text
     unfolding walk
     comes-whole =
-        rw (t .here .1) (sym (comes-so E text (left - 1) (r .place) (r .since) (r .steps) (r .exposures) (r .held) x told) ∙ by left (t .some) (t .going .same))
+        rw (t .here .1) (sym (comes-so cards text (left - 1) (r .place) (r .steps) (r .exposures) (r .held) x told (t .going .reached)) ∙ by left (t .some) (t .going .same))
       where
-        by : (f : ℕ) → 0 < f → found E text f r ≡ whole E text
-            → atop (r .steps) (r .exposures) (walkedOf (walked text (λ p′ o′ n′. walk E text (f - 1) p′ o′ n′) (r .place) (r .held) (r .since) x)) ≡ whole E text
+        by : (f : ℕ) → 0 < f → found cards text f r ≡ whole cards text
+            → atop (r .steps) (r .exposures) (walkedOf (walked text (λ p′ o′. walk cards text (f - 1) p′ o′) (r .place) (r .held) x)) ≡ whole cards text
         by zero z h = absurd (omega arith)
         by (suc f) z h = let d : suc f - 1 ≡ f = omega arith in rw (d, ← is) h
 
-    pub going-on : (r′ : Round) → r′ ≡ past text at r x → comes E text (left - 1) at r x ≡ found E text (left - 1) (past text at r x) → Going E text (left - 1) r′
+    pub going-on : (r′ : Round) → r′ ≡ roundPast text at r x → comes cards text (left - 1) at r x ≡ found cards text (left - 1) (roundPast text at r x) → Going cards text (left - 1) r′
     going-on r′ er c =
         let d : suc (left - 1) ≡ left = omega arith in
         let w : Within (suc (left - 1)) r = rw d (t .going .within) in
-        let v = within-past text (left - 1) (r .place) (r .since) (r .steps) (r .exposures) (t .octets) (r .held) x told w in
-        rw er record { same = sym c ∙ comes-whole; within = rw (t .here .1) v }
+        let v = within-past text (left - 1) (r .place) (r .steps) (r .exposures) (t .octets) (omega (arith, t .here, t .fair .size)) (r .held) x told w in
+        let h = reached-past cards text (left - 1) (r .place) (r .steps) (r .exposures) (r .held) x told (t .going .reached) in
+        rw er record { same = sym c ∙ comes-whole; within = rw (t .here .1) v; reached = rw (t .here .1) h }
 
 -- ── one sequence, taken alone
 abbrev LowWalked : Walked → Type 0
-LowWalked (Fault p code) = Unit {0}
+LowWalked (Faulty f) = Unit {0}
 LowWalked (Closed p c k x) = LowCall c
 
-low-walked : (last : ℕ) → last ≡ 127 → (found : Finding) → Low last found → LowWalked (walkedOf found)
+low-walked : (last : ℕ) → last ≤ 127 → (found : Finding) → Low last found → LowWalked (walkedOf found)
 low-walked last l (passes k x is p Terminates) w = tt
 low-walked last l (passes k x is p (CallsOn m)) w = omega arith
-low-walked last l (faults p code) w = tt
+low-walked last l (faults f) w = tt
 
 module _ (E : Env) where
-  walked-rounds : (q : ℕ) (found : Finding) → walkedOf (rounds E q found) ≡ allRounds (E .last) q (walkedOf found)
+  walked-rounds : (q : ℕ) (found : Finding) → walkedOf (rounds (E .format) q found) ≡ allRounds (E .format) q (walkedOf found)
   walked-rounds q (passes k x is p Terminates) = refl
-  walked-rounds q (passes k x is p (CallsOn m)) = by (ltb (E .last) m)
+  walked-rounds q (passes k x is p (CallsOn m)) = by (ltb (E .format .last) m)
     where
-      by : (t : Bool) → walkedOf (cond t (faults p 4) (passes (1 + q * k) (q * x) is p (CallsOn m))) ≡ cond t (Fault p 4) (Closed p (CallsOn m) (1 + q * k) (q * x))
+      by : (t : Bool) → walkedOf (cond t (faults (fault 4 p)) (passes (1 + q * k) (q * x) is p (CallsOn m))) ≡ cond t (Faulty (fault 4 p)) (Closed p (CallsOn m) (1 + q * k) (q * x))
       by true = refl
       by false = refl
-  walked-rounds q (faults p code) = refl
+  walked-rounds q (faults f) = refl
 
   -- its text is cut to an entry's size
-  module _ (full text : List ℕ) (cut : text ≡ take 128 full) where
-    pub cut-short : length text ≤ 128
+  module _ (fair : Fair (E .format)) (full text : List ℕ) (cut : text ≡ take (E .format .size) full) where
+    pub cut-short : length text ≤ E .format .size
     cut-short = rw cut (simp length-take (omega arith))
 
-    pub round-most : Octets full → (w : Walked) → w ≡ walkedOf (walk E text (length text) 4 Shut 0) → AtMost (2 ^ 46) w
+    pub round-most : Octets full → (w : Walked) → w ≡ walkedOf (walk (E .cards) text (length text) 4 Shut) → AtMost (2 ^ 46) w
     round-most oct w e =
-        let o : Octets text = rw cut (part-octets full 0 128 oct) in
-        let l : length text * 2 ^ 37 ≤ 2 ^ 46 = omega (arith, cut-short) in
-        let s = walk-small E text o (length text) 4 Shut 0 (omega (arith, cut-short)) in
-        rw e (most-of (2 ^ 46) (walk E text (length text) 4 Shut 0) (small-more l (walk E text (length text) 4 Shut 0) s))
+        let o : Octets text = rw cut (part-octets full 0 (E .format .size) oct) in
+        let l : length text * 2 ^ 37 ≤ 2 ^ 46 = omega (arith, cut-short, fair .size) in
+        let found = walk (E .cards) text (length text) 4 Shut in
+        rw e (most-of (2 ^ 46) found (small-more l found (walk-small (E .cards) text o (omega (arith, cut-short, fair .size)) (length text) 4 Shut)))
 
     module _ (h : Header) (eh : h ≡ headerOf text) where
-      pub one-unfit : (code place : ℕ) → h ≡ HeaderFault code place → Fault place code ≡ walkedOf (checkOne E (take 128 full))
+      pub one-unfit : (f : Fault) → h ≡ Bad f → Faulty f ≡ walkedOf (checkOne E (take (E .format .size) full))
       unfolding checkOne
-      one-unfit code place e = rw (← cut, ← eh, e)
+      one-unfit f e = rw (← cut, ← eh, e)
 
-      pub one-rounds : (q : ℕ) (w r : Walked) → h ≡ Repeats q → w ≡ walkedOf (walk E text (length text) 4 Shut 0) → r ≡ allRounds (E .last) q w
-          → r ≡ walkedOf (checkOne E (take 128 full))
+      pub one-rounds : (q : ℕ) (w r : Walked) → h ≡ Repeats q → w ≡ walkedOf (walk (E .cards) text (length text) 4 Shut) → r ≡ allRounds (E .format) q w
+          → r ≡ walkedOf (checkOne E (take (E .format .size) full))
       unfolding checkOne
       one-rounds q w r e ew er = rw (← cut, ← eh, e, walked-rounds q, ← ew) er
 
   -- its totals and its call are no greater than they may be
   module _ (text : List ℕ) (w : Walked) (ew : w ≡ walkedOf (checkOne E text)) where
-    pub one-most : Octets text → length text ≤ 128 → AtMost (2 ^ 54) w
+    pub one-most : Octets text → length text ≤ 256 → AtMost (2 ^ 54) w
     one-most oct short = rw ew (most-of (2 ^ 54) (checkOne E text) (one-small E text oct (omega arith)))
 
-    pub one-low : E .last ≡ 127 → (p k x : ℕ) (c : Closing) → w ≡ Closed p c k x → LowCall c
-    one-low l p k x c e = subst LowWalked (sym ew ∙ e) (low-walked (E .last) l (checkOne E text) (low-one E text))
+    pub one-low : E .format .last ≤ 127 → (p k x : ℕ) (c : Closing) → w ≡ Closed p c k x → LowCall c
+    one-low l p k x c e = subst LowWalked (sym ew ∙ e) (low-walked (E .format .last) l (checkOne E text) (low-one E text))

@@ -1,7 +1,7 @@
 pub mod Names
 pub mod Frame
+pub mod Counts
 pub mod Totals
 pub mod Samples
 pub mod Laws
 pub mod Chains
-pub mod Greatest

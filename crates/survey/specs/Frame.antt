@@ -2,21 +2,22 @@
 use Prim.Native.Nat.{ℕ, _≤_}
 use mathlib.Core.Path.{_≡_}
 use mathlib.Core.Bool.{true}
-use mathlib.Core.List.{List}
+use mathlib.Core.List.{List, [], _∷_}
+use Rattle.memory.specs.declared.Format.{Format}
 use Rattle.memory.specs.Memory.{entryOf, listOf}
-use Rattle.sequence.specs.declared.Command.the-variants.{RunRaster}
-use Rattle.sequence.specs.Text.{commandAt}
-use Rattle.sequence.specs.Starts.{among, startsOf}
+use Rattle.sequence.specs.Starts.{among, startsOf, rastersAmong}
 use Rattle.sequence.specs.Raster.{rasterAt}
 
--- a run raster that starts in the text, counted on from place 4, names line list k
-pub record Uses (text : List ℕ) (k : ℕ) : Type 0 where
-  pub place : ℕ
-  pub starts : among place (startsOf text) ≡ true
-  pub runs : commandAt text place ≡ RunRaster
-  pub list : rasterAt text place .list ≡ k
+-- the line lists that the run rasters at these places name
+abbrev pub listsNamed : List ℕ → List ℕ → List ℕ
+listsNamed text [] = []
+listsNamed text (p ∷ ps) = rasterAt text p .list ∷ listsNamed text ps
+
+-- the line lists that a sequence uses: those that the run rasters among its starts name
+unfoldable pub listsUsed : List ℕ → List ℕ
+listsUsed text = listsNamed text (rastersAmong text (startsOf text))
 
 -- the second pair of tables has the bytes of the first in each of these sequences, and in each line list that one of them uses
-pub record Agree (seqs lists seqs′ lists′ names : List ℕ) : Type 0 where
-  pub entries : (n : ℕ) → among n names ≡ true → entryOf seqs′ n ≡ entryOf seqs n
-  pub used : (n k : ℕ) → among n names ≡ true → k ≤ 47 → Uses (entryOf seqs n) k → listOf lists′ k ≡ listOf lists k
+pub record Agree (F : Format) (seqs lists seqs′ lists′ names : List ℕ) : Type 0 where
+  pub entries : (n : ℕ) → among n names ≡ true → entryOf F seqs′ n ≡ entryOf F seqs n
+  pub used : (n k : ℕ) → among n names ≡ true → k ≤ 47 → among k (listsUsed (entryOf F seqs n)) ≡ true → listOf lists′ k ≡ listOf lists k

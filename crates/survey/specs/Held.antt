@@ -1,74 +1,76 @@
--- What the code holds on its way: one sequence's findings without items, and the chain in arrays of numbers and marks.
-use Prim.Native.Nat.{ℕ, suc, _+_, _*_, _≤_, _<_, _^_}
+-- For the proofs of the code, what it holds on its way: one sequence's findings without items, and the chain in arrays of numbers and marks.
+use Prim.Native.Nat.{ℕ, zero, suc, _+_, _*_, _≤_, _<_, _^_}
 use mathlib.Core.Path.{_≡_}
 use mathlib.Core.Bool.{Bool, true, false, cond}
 use mathlib.Core.List.{List, [], _∷_, _++_, reverse}
-use lib.Dec.{ltb}
+use lib.Dec.{ltb, eqb}
 use lib.ListN.{length, getD, replicate}
-use Rattle.memory.specs.declared.Place.{Place}
+use Rattle.memory.specs.declared.Format.{Format}
+use Rattle.sequence.specs.Text.{fault, sizeAt}
 use Rattle.sequence.specs.Starts.{among}
 use Rattle.runner.specs.declared.Opened.{Opened}
 use Rattle.runner.specs.declared.Opened.the-variants.{Shut, Open}
 use Rattle.survey.specs.declared.Item.{Item}
+use Rattle.survey.specs.declared.Item.the-variants.{Scan}
 use Rattle.survey.specs.declared.Closing.{Closing}
 use Rattle.survey.specs.declared.Closing.the-variants.{Terminates, CallsOn}
 use Rattle.survey.specs.declared.Walked.{Walked}
-use Rattle.survey.specs.declared.Walked.the-variants.{Fault, Closed}
+use Rattle.survey.specs.declared.Walked.the-variants.{Faulty, Closed}
 use Rattle.survey.specs.declared.Ending.the-variants.{Finishes}
 use Rattle.survey.specs.declared.Round.{Round}
 use Rattle.survey.specs.declared.Chain.{Chain}
 use Rattle.survey.specs.declared.Checked.{Checked}
 use Rattle.survey.specs.declared.Report.{Report}
 use Rattle.survey.specs.Items.{itemSteps, itemExposures}
-use Rattle.survey.specs.Walk.{scan}
 use Rattle.survey.specs.Chain.{Told, told, total}
 use Rattle.survey.specs.Report.{padded}
 
 -- ── a round
--- past a run raster at this place: its raster is open, with no exposure and no command since
-abbrev pub opened : Place → Round → Round
-opened at r = record { place = r .place + 23; held = Open at 0; since = 0; steps = r .steps; exposures = r .exposures }
+-- past a command of this size, with this raster open after it, and so many steps and exposures more
+abbrev pub moved : ℕ → Opened → ℕ → ℕ → Round → Round
+moved size held k x r = record { place = r .place + size; held = held; steps = r .steps + k; exposures = r .exposures + x }
 
--- past an exposure: one more in the open raster's set
-abbrev pub exposedIn : Opened → Round → Round
-exposedIn Shut r = record { place = r .place + 3; held = Shut; since = 0; steps = r .steps; exposures = r .exposures }
-exposedIn (Open at c) r = record { place = r .place + 3; held = Open at (c + 1); since = r .since + 1; steps = r .steps; exposures = r .exposures }
-
--- past a delay: a step of its own outside rasters
-abbrev pub waitedIn : Opened → Round → Round
-waitedIn Shut r = record { place = r .place + 3; held = Shut; since = 0; steps = r .steps + 1; exposures = r .exposures }
-waitedIn (Open at c) r = record { place = r .place + 3; held = Open at c; since = r .since + 1; steps = r .steps; exposures = r .exposures }
-
--- past a loop back to t: the open raster is an item of the round
-abbrev pub scannedIn : List ℕ → Item → Round → Round
-scannedIn text i r =
-    record { place = r .place + 2; held = Shut; since = 0; steps = r .steps + itemSteps text i; exposures = r .exposures + itemExposures text i }
-
-abbrev pub loopedIn : List ℕ → ℕ → Opened → Round → Round
-loopedIn text t Shut r = record { place = r .place + 2; held = Shut; since = 0; steps = r .steps; exposures = r .exposures }
-loopedIn text t (Open at c) r = scannedIn text (scan text (at .0) t (r .place) (r .since)) r
+-- no number of it passes its width
+pub record RoomFor (size k x : ℕ) (r : Round) : Type 0 where
+  pub place : r .place + size < 256
+  pub steps : r .steps + k < 2 ^ 64
+  pub exposures : r .exposures + x < 2 ^ 64
 
 abbrev pub exposuresIn : Opened → ℕ
 exposuresIn Shut = 0
-exposuresIn (Open r c) = c
+exposuresIn (Open r c left) = c
 
--- a command of this size more, and no count passes its number's width
-pub record Fits (size : ℕ) (r : Round) : Type 0 where
-  pub place : r .place + size < 256
-  pub since : r .since < 255
-  pub counted : exposuresIn (r .held) ≤ r .since
-  pub steps : r .steps ≤ 2 ^ 62
-  pub exposures : r .exposures ≤ 2 ^ 62
+-- the steps of a delay: one of its own where no raster is open
+abbrev pub pauseIn : Opened → ℕ
+pauseIn Shut = 1
+pauseIn (Open r c left) = 0
+
+-- how many commands stand from p up to t, at most f of them
+unfoldable pub between : List ℕ → ℕ → ℕ → ℕ → ℕ
+between text zero p t = 0
+between text (suc f) p t = cond (eqb p t) 0 (suc (between text f (p + sizeAt text p) t))
+
+-- the raster at r closed by the loop back at q to t, its commands counted one by one
+abbrev pub countedScan : List ℕ → ℕ → ℕ → ℕ → Item
+countedScan text r t q = Scan r t q (between text t (r + sizeAt text r) t) (between text q t q)
+
+-- past a loop back to t: the open raster is an item of the round
+abbrev pub scannedIn : List ℕ → Item → Round → Round
+scannedIn text i r = moved 2 Shut (itemSteps text i) (itemExposures text i) r
+
+abbrev pub loopedIn : List ℕ → ℕ → Opened → Round → Round
+loopedIn text t Shut r = moved 2 Shut 0 0 r
+loopedIn text t (Open at c left) r = scannedIn text (countedScan text (at .0) t (r .place)) r
 
 -- ── all rounds
-abbrev pub allRounds : ℕ → ℕ → Walked → Walked
-allRounds last q (Fault p code) = Fault p code
-allRounds last q (Closed p Terminates steps exposures) = Closed p Terminates (1 + q * steps) (q * exposures)
-allRounds last q (Closed p (CallsOn m) steps exposures) = cond (ltb last m) (Fault p 4) (Closed p (CallsOn m) (1 + q * steps) (q * exposures))
+abbrev pub allRounds : Format → ℕ → Walked → Walked
+allRounds F q (Faulty f) = Faulty f
+allRounds F q (Closed p Terminates steps exposures) = Closed p Terminates (1 + q * steps) (q * exposures)
+allRounds F q (Closed p (CallsOn m) steps exposures) = cond (ltb (F .last) m) (Faulty (fault 4 p)) (Closed p (CallsOn m) (1 + q * steps) (q * exposures))
 
 -- totals of at most this much
 abbrev pub AtMost : ℕ → Walked → Type 0
-AtMost most (Fault p code) = Unit {0}
+AtMost most (Faulty f) = Unit {0}
 AtMost most (Closed p c steps exposures) = (steps ≤ most) × (exposures ≤ most)
 
 -- ── the chain
@@ -79,7 +81,7 @@ unmarked (true ∷ ms) = unmarked ms
 unmarked (false ∷ ms) = suc (unmarked ms)
 
 -- each listed sequence has its mark and brought at most 2^54 to each total
-pub record Kept (chain : Chain) : Type 0 where
+pub record Marked (chain : Chain) : Type 0 where
   pub listed-long : length (chain .listed) ≡ 128
   pub marks-long : length (chain .marks) ≡ 128
   pub all : chain .count + unmarked (chain .marks) ≡ 128
@@ -88,7 +90,7 @@ pub record Kept (chain : Chain) : Type 0 where
 
 -- and sequence n is not listed
 pub record Free (chain : Chain) (n : ℕ) : Type 0 where
-  pub kept : Kept chain
+  pub kept : Marked chain
   pub low : n < 128
   pub new : getD (chain .marks) n false ≡ false
 

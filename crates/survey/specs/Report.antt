@@ -3,9 +3,9 @@ use Prim.Native.Nat.{ℕ, _-_}
 use mathlib.Core.List.{List, [], _∷_, _++_}
 use lib.ListN.{length, replicate}
 use Rattle.survey.specs.declared.Ending.{Ending}
-use Rattle.survey.specs.declared.Ending.the-variants.{Unlisted, Finishes, Returns, Faulty}
+use Rattle.survey.specs.declared.Ending.the-variants.{Unlisted, Finishes, Returns, Faults}
 use Rattle.survey.specs.declared.Walked.{Walked}
-use Rattle.survey.specs.declared.Walked.the-variants.{Fault, Closed}
+use Rattle.survey.specs.declared.Walked.the-variants.{Faulty, Closed}
 use Rattle.survey.specs.declared.Report.{Report}
 use Rattle.survey.specs.Walk.{Finding, passes, faults}
 use Rattle.survey.specs.Chain.{Told}
@@ -24,7 +24,7 @@ abbrev pub endingShown : Ending → EndingShown
 endingShown (Unlisted code) = endingAs 0 code 0 0
 endingShown Finishes = endingAs 1 0 0 0
 endingShown Returns = endingAs 2 0 0 0
-endingShown (Faulty code n p) = endingAs 3 code n p
+endingShown (Faults n f) = endingAs 3 (f .code) n (f .place)
 
 -- the names, and zeros after them
 unfoldable pub padded : List ℕ → List ℕ
@@ -36,4 +36,4 @@ reportOf t = record { ending = t .ending; listed = padded (t .names); count = le
 -- what one sequence's text comes to, without the items
 abbrev pub walkedOf : Finding → Walked
 walkedOf (passes k x is p c) = Closed p c k x
-walkedOf (faults p code) = Fault p code
+walkedOf (faults f) = Faulty f

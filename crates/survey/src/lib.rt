@@ -1,20 +1,23 @@
 // The table check: it reads and does not run.
 ghost use mathlib.Core.Path.{_≡_};
-ghost use Prim.Native.Nat.{ℕ, _+_, _-_, _≤_, _<_, _^_};
+ghost use Prim.Native.Nat.{ℕ, _+_, _≤_, _<_, _^_};
 ghost use mathlib.Core.List.{List};
 ghost use lib.ListN.{length, take};
+ghost use Rattle.memory.specs.Memory.{flight, Fair};
 ghost use Rattle.sequence.specs.Text.{sizeAt};
 ghost use Rattle.sequence.specs.Raster.{rasterAt};
-ghost use Rattle.sequence.specs.Env.{envOf};
+ghost use Rattle.sequence.specs.Env.{cardsOf, envOf};
 ghost use Rattle.survey.specs.Items.{rasterSteps, rasterExposures};
-ghost use Rattle.survey.specs.Walk.{between, walk, checkOne};
+ghost use Rattle.survey.specs.Walk.{oneMore, walk, checkOne, findingOf};
 ghost use Rattle.survey.specs.Chain.{total, follow, checkOf};
 ghost use Rattle.survey.specs.Report.{reportOf, walkedOf};
-ghost use Rattle.survey.specs.Held.{Fits, opened, exposedIn, waitedIn, loopedIn, allRounds, AtMost, unmarked, Kept, Free, Is, LowCall, joined, ahead, emptyChain, reported};
+ghost use Rattle.survey.specs.Held.{moved, RoomFor, exposuresIn, pauseIn, between, loopedIn, allRounds, AtMost, unmarked, Marked, Free, Is, LowCall, joined, ahead, emptyChain, reported};
+use memory::Format;
 use memory::Place;
 use memory::Placed;
 use runner::Act;
 use runner::Opened;
+use sequence::Fault;
 use sequence::Header;
 
 // What a round of a sequence is made of: a delay outside rasters, by its place; or a raster, by its place, its loop back's target,
@@ -32,10 +35,7 @@ pub enum Closing {
 
 // What one sequence's text comes to: a fault; or its closing command with its place, and the steps and exposures of all rounds.
 pub enum Walked {
-    Fault {
-        place: u8,
-        code: u8,
-    },
+    Faulty(Fault),
     Closed {
         place: u8,
         closing: Closing,
@@ -45,29 +45,27 @@ pub enum Walked {
 }
 
 // How the check of a chain ends: nothing listed, with a code; at a terminate; at a sequence that is listed already; at a fault, with its
-// code, sequence and place.
+// sequence.
 pub enum Ending {
     Unlisted(u8),
     Finishes,
     Returns,
-    Faulty(u8, u8, u8),
+    Faults(u8, Fault),
 }
 
 // The chain so far: the sequences listed, in order, a mark for each of them, and the totals.
 pub struct Chain {
-    pub listed: [u8; 128],
-    pub marks: [bool; 128],
+    pub listed: [u8; memory::SEQUENCES],
+    pub marks: [bool; memory::SEQUENCES],
     pub count: usize,
     pub steps: u64,
     pub exposures: u64,
 }
 
-// What one round of a text has come to so far: the next command's place, the open raster, the commands since its run raster, and the
-// steps and exposures.
+// What one round of a text has come to so far: the next command's place, the open raster, and the steps and exposures.
 struct Round {
     place: u8,
     held: Opened,
-    since: u8,
     steps: u64,
     exposures: u64,
 }
@@ -81,26 +79,26 @@ struct Checked {
 // What the check answers.
 pub struct Report {
     pub ending: Ending,
-    pub listed: [u8; 128],
+    pub listed: [u8; memory::SEQUENCES],
     pub count: usize,
     pub steps: u64,
     pub exposures: u64,
 }
 
 // The place past the command at this number, or the number itself where none stands there whole.
-fn past(text: &[u8], number: u8) -> u8
-    requires { ⌜ length (now text) ≤ 128 ⌝ }
+fn past(format: Format, text: &[u8], number: u8) -> u8
+    requires { ⌜ length (now text) ≤ format .size ⌝ }
     ensures { λ r. ⌜ r ≡ number + sizeAt (now (text .entry)) number ⌝ }
 {
-    match Place::of(number) {
-        Placed::At(at) => sequence::past(text, at) as u8,
+    match Place::of(format, number) {
+        Placed::At(at) => sequence::past(text, at),
         Placed::Outside => number,
     }
 }
 
 // How many commands stand from a place up to another; at most `most` are counted.
-fn between(text: &[u8], most: u8, from: u8, t: u8) -> u8
-    requires { ⌜ length (now text) ≤ 128 ⌝ }
+fn between(format: Format, text: &[u8], most: u8, from: u8, t: u8) -> u8
+    requires { ⌜ length (now text) ≤ format .size ⌝ }
     ensures { λ r. ⌜ r ≡ between (now (text .entry)) most from t ⌝ }
 {
     let mut at = from;
@@ -109,17 +107,10 @@ fn between(text: &[u8], most: u8, from: u8, t: u8) -> u8
         if at == t {
             return n;
         }
-        at = past(text, at);
+        at = past(format, text, at);
         n += 1;
     }
     n
-}
-
-// What is left of a count after another is taken from it, 0 where that is more.
-fn minus(count: u8, other: u8) -> u8
-    ensures { λ r. ⌜ r ≡ count - other ⌝ }
-{
-    if other < count { count - other } else { 0 }
 }
 
 // The steps of all repeats of the raster at a place, from its commands before the target and from it on.
@@ -139,94 +130,60 @@ fn raster_exposures(text: &[u8], at: Place) -> u64
         * sequence::repeats_at(text, at) as u64
 }
 
+// The open raster after one exposure more.
+fn one_more(held: Opened) -> Opened
+    requires { ⌜ exposuresIn held < 255 ⌝ }
+    ensures { λ r. ⌜ r ≡ oneMore held ⌝ }
+{
+    match held {
+        Opened::Shut => Opened::Shut,
+        Opened::Open(at, count, left) => Opened::Open(at, count + 1, left),
+    }
+}
+
+// The steps of a delay: one of its own where no raster is open.
+fn pause(held: Opened) -> u64
+    ensures { λ r. ⌜ r ≡ pauseIn held ⌝ }
+{
+    match held {
+        Opened::Shut => 1,
+        Opened::Open(_, _, _) => 0,
+    }
+}
+
 impl Round {
-    // The round past a run raster at this place.
-    fn opens(self, at: Place) -> Round
-        requires { ⌜ Fits 23 self ⌝ }
-        ensures { λ r. ⌜ r ≡ opened at self ⌝ }
+    // The round past a command of this size that leaves this raster open, with so many steps and exposures more.
+    fn past(self, size: u8, held: Opened, steps: u64, exposures: u64) -> Round
+        requires { ⌜ RoomFor size steps exposures self ⌝ }
+        ensures { λ r. ⌜ r ≡ moved size held steps exposures self ⌝ }
     {
         Round {
-            place: self.place + 23,
-            held: Opened::Open(at, 0),
-            since: 0,
-            ..self
-        }
-    }
-
-    // The round past an exposure, one more in the open raster's set.
-    fn exposes(self) -> Round
-        requires { ⌜ Fits 3 self ⌝ }
-        ensures { λ r. ⌜ r ≡ exposedIn (self .held) self ⌝ }
-    {
-        let held = self.held;
-        let place = self.place + 3;
-        match held {
-            Opened::Shut => Round {
-                place,
-                since: 0,
-                ..self
-            },
-            Opened::Open(at, count) => Round {
-                place,
-                held: Opened::Open(at, count + 1),
-                since: self.since + 1,
-                ..self
-            },
-        }
-    }
-
-    // The round past a delay, a step of its own where no raster is open.
-    fn waits(self) -> Round
-        requires { ⌜ Fits 3 self ⌝ }
-        ensures { λ r. ⌜ r ≡ waitedIn (self .held) self ⌝ }
-    {
-        let held = self.held;
-        let place = self.place + 3;
-        match held {
-            Opened::Shut => Round {
-                place,
-                since: 0,
-                steps: self.steps + 1,
-                ..self
-            },
-            Opened::Open(_, _) => Round {
-                place,
-                since: self.since + 1,
-                ..self
-            },
+            place: self.place + size,
+            held,
+            steps: self.steps + steps,
+            exposures: self.exposures + exposures,
         }
     }
 
     // The round past a loop back to this place, with the raster that it closes.
-    fn loops(self, text: &[u8], t: u8) -> Round
-        requires { ⌜ Fits 2 self × (length (now text) ≤ 128) ⌝ }
+    fn loops(self, format: Format, text: &[u8], t: u8) -> Round
+        requires { ⌜ RoomFor 2 (2 ^ 37) (2 ^ 37) self × (length (now text) ≤ format .size) ⌝ }
         ensures { λ r. ⌜ r ≡ loopedIn (now (text .entry)) t (self .held) self ⌝ }
     {
         let held = self.held;
-        let place = self.place + 2;
-        match held {
-            Opened::Shut => Round {
-                place,
-                since: 0,
-                ..self
-            },
-            Opened::Open(at, _) => {
-                let before = between(text, t, past(text, at.number()), t);
-                let from = minus(self.since, before);
-                Round {
-                    place,
-                    held: Opened::Shut,
-                    since: 0,
-                    steps: self.steps + raster_steps(text, at, before, from),
-                    exposures: self.exposures + raster_exposures(text, at),
-                }
-            }
-        }
+        let Opened::Open(at, _, _) = held else {
+            return self.past(2, Opened::Shut, 0, 0);
+        };
+        let before = between(format, text, t, sequence::past(text, at), t);
+        let from = between(format, text, self.place, t, self.place);
+        let steps = raster_steps(text, at, before, from);
+        let exposures = raster_exposures(text, at);
+        self.past(2, Opened::Shut, steps, exposures)
     }
 
     // The round closed by the command at its place, which is a step too.
     fn closes(self, closing: Closing) -> Walked
-        requires { ⌜ self .steps ≤ 2 ^ 62 ⌝ }
+        requires { ⌜ self .steps + 1 < 2 ^ 64 ⌝ }
         ensures { λ r. ⌜ r ≡ Walked.Closed (self .place) closing (self .steps + 1) (self .exposures) ⌝ }
     {
         Walked::Closed {
@@ -239,48 +196,50 @@ impl Round {
 }
 
 // One round of a text: its commands in order from place 4 on, at most as many as it has bytes.
-fn walk(text: &[u8], lists: &[u8]) -> Walked
-    requires { ⌜ length (now text) ≤ 128 ⌝ }
-    ensures { λ r. ⌜ r ≡ walkedOf (walk (envOf (now (lists .entry))) (now (text .entry)) (length (now (text .entry))) 4 Opened.Shut 0) ⌝ }
+fn walk(format: Format, text: &[u8], lists: &[u8]) -> Walked
+    requires { ⌜ Fair format × (length (now text) ≤ format .size) ⌝ }
+    ensures { λ r. ⌜ r ≡ walkedOf (walk (cardsOf (now (lists .entry))) (now (text .entry)) (length (now (text .entry))) 4 Opened.Shut) ⌝ }
 {
     let mut round = Round {
         place: 4,
         held: Opened::Shut,
-        since: 0,
         steps: 0,
         exposures: 0,
     };
     let mut left = text.len();
     while 0 < left {
         let place = round.place;
-        let Placed::At(at) = Place::of(place) else {
-            return Walked::Fault { place, code: 3 };
+        let Placed::At(at) = Place::of(format, place) else {
+            return Walked::Faulty(Fault { code: 3, place });
         };
         let held = round.held;
         round = match runner::judge(text, lists, at, held) {
-            Act::Refused(code) => return Walked::Fault { place, code },
-            Act::Opens => round.opens(at),
-            Act::Exposes(_) => round.exposes(),
-            Act::Loops(t) => round.loops(text, t),
-            Act::Waits => round.waits(),
+            Act::Refused(code) => return Walked::Faulty(Fault { code, place }),
+            Act::Opens => {
+                let opened = Opened::Open(at, 0, sequence::repeats_at(text, at));
+                round.past(23, opened, 0, 0)
+            }
+            Act::Exposes(_) => round.past(3, one_more(held), 0, 0),
+            Act::Loops(t) => round.loops(format, text, t),
+            Act::Waits => round.past(3, held, pause(held), 0),
             Act::Calls(n) => return round.closes(Closing::CallsOn(n)),
             Act::Ends => return round.closes(Closing::Terminates),
         };
         left -= 1;
     }
-    Walked::Fault {
-        place: round.place,
+    Walked::Faulty(Fault {
         code: 3,
-    }
+        place: round.place,
+    })
 }
 
 // All rounds of a sequence, from what one comes to; a call above the last sequence's number is a fault of the last round.
-fn all_rounds(repeats: u8, round: Walked) -> Walked
+fn all_rounds(format: Format, repeats: u8, round: Walked) -> Walked
     requires { ⌜ AtMost (2 ^ 46) round ⌝ }
-    ensures { λ r. ⌜ r ≡ allRounds 127 repeats round ⌝ }
+    ensures { λ r. ⌜ r ≡ allRounds format repeats round ⌝ }
 {
     match round {
-        Walked::Fault { place, code } => Walked::Fault { place, code },
+        Walked::Faulty(fault) => Walked::Faulty(fault),
         Walked::Closed {
             place,
             closing,
@@ -296,8 +255,8 @@ fn all_rounds(repeats: u8, round: Walked) -> Walked
             match closing {
                 Closing::Terminates => all,
                 Closing::CallsOn(m) => {
-                    if memory::LAST_SEQUENCE < m {
-                        Walked::Fault { place, code: 4 }
+                    if format.last < m {
+                        Walked::Faulty(Fault { code: 4, place })
                     } else {
                         all
                     }
@@ -307,15 +266,23 @@ fn all_rounds(repeats: u8, round: Walked) -> Walked
     }
 }
 
-// One sequence's text, taken alone: at most the 128 bytes of an entry are read.
-pub fn check_one(text: &[u8], lists: &[u8]) -> Walked
-    ensures { λ r. ⌜ r ≡ walkedOf (checkOne (envOf (now (lists .entry))) (take 128 (now (text .entry)))) ⌝ }
+// One sequence's text, taken alone: at most the bytes of an entry are read.
+fn check_text(format: Format, text: &[u8], lists: &[u8]) -> Walked
+    requires { ⌜ Fair format ⌝ }
+    ensures { λ r. ⌜ r ≡ walkedOf (checkOne (envOf format (now (lists .entry))) (take (format .size) (now (text .entry)))) ⌝ }
 {
-    let entry = octets::part(text, 0, memory::SEQUENCE_SIZE);
+    let entry = octets::part(text, 0, format.size as usize);
     match sequence::header_of(entry) {
-        Header::Fault { code, place } => Walked::Fault { place, code },
-        Header::Repeats(repeats) => all_rounds(repeats, walk(entry, lists)),
+        Header::Bad(fault) => Walked::Faulty(fault),
+        Header::Repeats(repeats) => all_rounds(format, repeats, walk(format, entry, lists)),
     }
+}
+
+// One sequence's text, taken alone, of the flight unit's table.
+pub fn check_one(text: &[u8], lists: &[u8]) -> Walked
+    ensures { λ r. ⌜ r ≡ walkedOf (checkOne (envOf flight (now (lists .entry))) (take 128 (now (text .entry)))) ⌝ }
+{
+    check_text(Format::flight(), text, lists)
 }
 
 // Nothing listed.
@@ -323,8 +290,8 @@ fn empty() -> Chain
     ensures { λ r. ⌜ r ≡ emptyChain ⌝ }
 {
     Chain {
-        listed: [0u8; 128],
-        marks: [false; 128],
+        listed: [0u8; memory::SEQUENCES],
+        marks: [false; memory::SEQUENCES],
         count: 0,
         steps: 0,
         exposures: 0,
@@ -332,19 +299,19 @@ fn empty() -> Chain
 }
 
 // Sequence n, which is not listed yet, listed and marked, and what its closing command leads to.
-fn check_sequence(seqs: &[u8], lists: &[u8], n: u8, mut chain: Chain) -> Checked
-    requires { ⌜ Free chain n ⌝ }
-    ensures { λ r. ⌜ ((names : List ℕ) → Is chain names → reported r ≡ reportOf (joined names (chain .steps) (chain .exposures) (follow (envOf (now (lists .entry))) (now (seqs .entry)) (unmarked (chain .marks)) names n))) ⌝ }
+fn check_sequence(format: Format, seqs: &[u8], lists: &[u8], n: u8, mut chain: Chain) -> Checked
+    requires { ⌜ Fair format × Free chain n ⌝ }
+    ensures { λ r. ⌜ ((names : List ℕ) → Is chain names → reported r ≡ reportOf (joined names (chain .steps) (chain .exposures) (follow (findingOf (envOf format (now (lists .entry))) (now (seqs .entry))) (unmarked (chain .marks)) names n))) ⌝ }
 {
     let at = chain.count;
     let mark = n as usize;
     chain.listed[at] = n;
     chain.marks[mark] = true;
     chain.count = at + 1;
-    match check_one(memory::entry(seqs, n), lists) {
-        Walked::Fault { place, code } => Checked {
+    match check_text(format, memory::entry(format, seqs, n), lists) {
+        Walked::Faulty(fault) => Checked {
             chain,
-            ending: Ending::Faulty(code, n, place),
+            ending: Ending::Faults(n, fault),
         },
         Walked::Closed {
             place: _,
@@ -354,15 +321,21 @@ fn check_sequence(seqs: &[u8], lists: &[u8], n: u8, mut chain: Chain) -> Checked
         } => {
             chain.steps += steps;
             chain.exposures += exposures;
-            check_closing(seqs, lists, chain, closing)
+            check_closing(format, seqs, lists, chain, closing)
         }
     }
 }
 
 // A closing command: terminate, a call of a listed sequence, or a call of one that is not.
-fn check_closing(seqs: &[u8], lists: &[u8], chain: Chain, closing: Closing) -> Checked
-    requires { ⌜ Kept chain × LowCall closing ⌝ }
-    ensures { λ r. ⌜ ((names : List ℕ) → Is chain names → reported r ≡ reportOf (joined names (chain .steps) (chain .exposures) (ahead (follow (envOf (now (lists .entry))) (now (seqs .entry)) (unmarked (chain .marks)) names) closing))) ⌝ }
+fn check_closing(
+    format: Format,
+    seqs: &[u8],
+    lists: &[u8],
+    chain: Chain,
+    closing: Closing,
+) -> Checked
+    requires { ⌜ Fair format × Marked chain × LowCall closing ⌝ }
+    ensures { λ r. ⌜ ((names : List ℕ) → Is chain names → reported r ≡ reportOf (joined names (chain .steps) (chain .exposures) (ahead (follow (findingOf (envOf format (now (lists .entry))) (now (seqs .entry))) (unmarked (chain .marks)) names) closing))) ⌝ }
 {
     match closing {
         Closing::Terminates => Checked {
@@ -377,7 +350,7 @@ fn check_closing(seqs: &[u8], lists: &[u8], chain: Chain, closing: Closing) -> C
                     ending: Ending::Returns,
                 };
             }
-            check_sequence(seqs, lists, target, chain)
+            check_sequence(format, seqs, lists, target, chain)
         }
     }
 }
@@ -390,7 +363,7 @@ fn total(ending: Ending, sum: u64) -> u64
         Ending::Unlisted(_) => 0,
         Ending::Finishes => sum,
         Ending::Returns => sum,
-        Ending::Faulty(_, _, _) => 0,
+        Ending::Faults(_, _) => 0,
     }
 }
 
@@ -415,8 +388,9 @@ impl Checked {
 // The table check of a sequence and of those that it calls, in order: 16 for tables of a wrong size, then 7 for a number above 127, then
 // the chain up to its end, its return or its first fault.
 pub fn check(seqs: &[u8], lists: &[u8], number: u32) -> Report
-    ensures { λ r. ⌜ r ≡ reportOf (checkOf (now (seqs .entry)) (now (lists .entry)) number) ⌝ }
+    ensures { λ r. ⌜ r ≡ reportOf (checkOf flight (now (seqs .entry)) (now (lists .entry)) number) ⌝ }
 {
+    let format = Format::flight();
     let chain = empty();
     if memory::tables_wrong(seqs, lists) {
         let wrong = Checked {
@@ -425,12 +399,12 @@ pub fn check(seqs: &[u8], lists: &[u8], number: u32) -> Report
         };
         return wrong.report();
     }
-    if (memory::LAST_SEQUENCE as u32) < number {
+    if (format.last as u32) < number {
         let above = Checked {
             chain,
             ending: Ending::Unlisted(7),
         };
         return above.report();
     }
-    check_sequence(seqs, lists, number as u8, chain).report()
+    check_sequence(format, seqs, lists, number as u8, chain).report()
 }

@@ -2,11 +2,12 @@
 use libc::STDIN_FILENO;
 use libc::STDOUT_FILENO;
 use line::Numeral;
+use sequence::Fault;
 use survey::Ending;
 use survey::Report;
 
 // The two dumps put together.
-const TABLES: usize = 24256;
+const TABLES: usize = memory::SEQUENCE_TABLE + memory::LINE_LIST_TABLE;
 
 // A word and a blank on a line, and what the check was refused for.
 fn put_refused(text: &mut [u8], at: usize, word: &[u8], code: u8) -> usize {
@@ -16,7 +17,7 @@ fn put_refused(text: &mut [u8], at: usize, word: &[u8], code: u8) -> usize {
 }
 
 // The chain's sequences in order, and the line's end.
-fn put_chain(text: &mut [u8], at: usize, listed: &[u8; 128], count: usize) -> usize {
+fn put_chain(text: &mut [u8], at: usize, listed: &[u8; memory::SEQUENCES], count: usize) -> usize {
     let p = line::put_numbers(text, at, octets::part(listed, 0, count));
     line::put(text, p, b'\n')
 }
@@ -33,20 +34,21 @@ fn put_passed(text: &mut [u8], at: usize, word: &[u8], how: &[u8], report: Repor
 }
 
 // A fault: its code, sequence and place, and the chain through that sequence.
-fn put_fault(text: &mut [u8], at: usize, word: &[u8], fault: Fault, report: Report) -> usize {
+fn put_fault(
+    text: &mut [u8],
+    at: usize,
+    word: &[u8],
+    sequence: u8,
+    fault: Fault,
+    report: Report,
+) -> usize {
     let listed = report.listed;
     let mut p = line::put_word(text, at, b"FAULT ");
     p = line::put_word(text, p, word);
     p = line::put_blank_number(text, p, fault.code as u64);
-    p = line::put_blank_number(text, p, fault.sequence as u64);
+    p = line::put_blank_number(text, p, sequence as u64);
     p = line::put_blank_number(text, p, fault.place as u64);
     put_chain(text, p, &listed, report.count)
-}
-
-struct Fault {
-    code: u8,
-    sequence: u8,
-    place: u8,
 }
 
 // The line of one report.
@@ -59,17 +61,7 @@ fn put_report(text: &mut [u8], at: usize, word: &[u8], report: Report) -> usize 
         }
         Ending::Finishes => put_passed(text, at, word, b" ENDS", report),
         Ending::Returns => put_passed(text, at, word, b" RETURNS", report),
-        Ending::Faulty(code, sequence, place) => put_fault(
-            text,
-            at,
-            word,
-            Fault {
-                code,
-                sequence,
-                place,
-            },
-            report,
-        ),
+        Ending::Faults(sequence, fault) => put_fault(text, at, word, sequence, fault, report),
     }
 }
 
@@ -87,9 +79,9 @@ fn show(seqs: &[u8], lists: &[u8], word: &[u8], text: &mut [u8]) {
 // Every sequence in order.
 fn show_all(seqs: &[u8], lists: &[u8], word: &mut [u8], text: &mut [u8]) {
     let mut n: u8 = 0;
-    while n < 128 {
-        let length = line::put_number(word, 0, n as u64);
-        show(seqs, lists, octets::part(word, 0, length), text);
+    while n <= memory::LAST_SEQUENCE {
+        let end = line::put_number(word, 0, n as u64);
+        show(seqs, lists, octets::part(word, 0, end), text);
         n += 1;
     }
 }
@@ -99,8 +91,8 @@ fn show_named(seqs: &[u8], lists: &[u8], word: &mut [u8], text: &mut [u8]) {
     let count = os::arg_count();
     let mut i = 1;
     while i < count {
-        let length = os::arg(i, word);
-        show(seqs, lists, octets::part(word, 0, length), text);
+        let end = os::arg(i, word);
+        show(seqs, lists, octets::part(word, 0, end), text);
         i += 1;
     }
 }
@@ -112,8 +104,8 @@ fn run(tables: &mut [u8], word: &mut [u8], text: &mut [u8]) {
         io::write_all(STDOUT_FILENO, b"REFUSED TABLES 16\n");
         return;
     }
-    let seqs = octets::part(tables, 0, 16384);
-    let lists = octets::part(tables, 16384, 7872);
+    let seqs = octets::part(tables, 0, memory::SEQUENCE_TABLE);
+    let lists = octets::part(tables, memory::SEQUENCE_TABLE, memory::LINE_LIST_TABLE);
     if os::arg_count() <= 1 {
         show_all(seqs, lists, word, text);
     } else {
@@ -122,7 +114,7 @@ fn run(tables: &mut [u8], word: &mut [u8], text: &mut [u8]) {
 }
 
 fn main() {
-    let mut tables = [0u8; 24257];
+    let mut tables = [0u8; TABLES + 1];
     let mut word = io::large_buffer();
     let mut text = [0u8; 70000];
     run(&mut tables, &mut word, &mut text);

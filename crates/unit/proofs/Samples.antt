@@ -1,18 +1,18 @@
 -- Document 01's samples of packets, as rows of one list and one computed test. Assumes nothing.
 use Prim.Native.Nat.{ℕ}
 use mathlib.Core.Path.{_≡_, refl}
-use mathlib.Core.Bool.{Bool, true, false, _&&_}
+use mathlib.Core.Bool.{Bool, true, _&&_}
 use mathlib.Core.List.{List, [], _∷_, _++_}
 use lib.Dec.{eqb}
 use lib.ListN.{replicate}
-use Rattle.memory.specs.Memory.{tablesWrong, rangeOf, rangeAt}
-use Rattle.unit.specs.declared.Unit.{Unit}
+use Rattle.octets.proofs.Samples.{same}
+use Rattle.memory.specs.Memory.{flight, tablesWrong, rangeOf, rangeAt}
 use Rattle.unit.specs.declared.Log.{Log}
 use Rattle.unit.specs.declared.Answer.{Answer}
 use Rattle.unit.specs.State.{powerOn, runsWrong, rangeTests, outOfRange}
-use Rattle.unit.specs.Packet.{kindOf, ownRows, lentWrong, packetRows, codeOf}
+use Rattle.unit.specs.Packet.{telecommandOf, ownRows, lentWrong, packetRows, codeOf}
 use Rattle.unit.specs.Status.{statusOf}
-use Rattle.unit.specs.Answer.{obeyedUnit, reply, refusedUnit, unitAfter, replyOf, answerOf}
+use Rattle.unit.specs.Answer.{effect, obeyedUnit, reply, refusedUnit, unitAfter, replyOf, answerOf}
 
 -- a packet from power-on at time 0, over tables and an output of zeros: its code, its log, and the bytes that answer it
 record Sample : Type 0 where
@@ -31,21 +31,15 @@ abbrev lists : List ℕ
 lists = replicate 7872 0
 
 abbrev answered : List ℕ → Answer
-answered p = answerOf powerOn 0 seqs lists seqs p
+answered p = answerOf flight powerOn 0 seqs lists seqs p
 
 abbrev logged : Log → List ℕ
 logged l = l .bc1 ∷ l .bc2 ∷ l .bc3 ∷ l .size ∷ []
 
-abbrev same : List ℕ → List ℕ → Bool
-same [] [] = true
-same [] (y ∷ ys) = false
-same (x ∷ xs) [] = false
-same (x ∷ xs) (y ∷ ys) = eqb x y && same xs ys
-
 abbrev right : Sample → Bool
 right s =
     eqb (answered (s .packet) .code) (s .code)
-    && (same (logged (answered (s .packet) .unit .ledger .log)) (s .log) && same (replyOf powerOn 0 seqs lists seqs (s .packet)) (s .reply))
+    && (same (logged (answered (s .packet) .unit .ledger .log)) (s .log) && same (replyOf flight powerOn 0 seqs lists seqs (s .packet)) (s .reply))
 
 abbrev all-right : List Sample → Bool
 all-right [] = true
@@ -64,5 +58,5 @@ samples =
     ∷ []
 
 pub samples-right : all-right samples ≡ true
-unfolding tablesWrong rangeOf rangeAt powerOn runsWrong rangeTests outOfRange kindOf ownRows lentWrong packetRows codeOf statusOf obeyedUnit reply refusedUnit unitAfter replyOf answerOf
+unfolding tablesWrong rangeOf rangeAt powerOn runsWrong rangeTests outOfRange telecommandOf ownRows lentWrong packetRows codeOf statusOf effect obeyedUnit reply refusedUnit unitAfter replyOf answerOf
 samples-right = refl

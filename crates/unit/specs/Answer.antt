@@ -1,105 +1,81 @@
 -- What a packet is answered, and what it leaves in the unit, the tables and the output.
 use Prim.Native.Nat.{ℕ, _+_}
-use mathlib.Core.Bool.{Bool, true, false, cond}
+use mathlib.Core.Bool.{true, cond}
 use mathlib.Core.List.{List, [], _∷_, _++_}
 use lib.Dec.{leb, eqb}
 use lib.ListN.{length, drop}
 use Rattle.octets.specs.Bytes.{byteAt, tripleAt}
-use Rattle.memory.specs.Memory.{rangeAt, partOf, seqsWritten, listsWritten}
+use Rattle.memory.specs.declared.Format.{Format}
+use Rattle.memory.specs.declared.Range.{Range}
+use Rattle.memory.specs.declared.Range.the-variants.{Wrong}
+use Rattle.memory.specs.Memory.{partOf, seqsWritten, listsWritten}
 use Rattle.unit.specs.declared.Unit.{Unit}
-use Rattle.unit.specs.declared.Kind.{Kind}
-use Rattle.unit.specs.declared.Kind.the-variants.{Status, Dump, Allow, Mode, Clear, Select, Uplink, Foreign, Unheard}
+use Rattle.unit.specs.declared.Telecommand.{Telecommand}
+use Rattle.unit.specs.declared.Telecommand.the-variants.{Status, Dump, Allow, Mode, Clear, Select, Uplink, Foreign, Unheard}
 use Rattle.unit.specs.declared.Answer.{Answer}
-use Rattle.unit.specs.State.{withLedger, withControl, withWatch, withAllowed, withRequests, withAbort, counted, received, failed, cleared, moded, selected}
-use Rattle.unit.specs.Packet.{kindOf, dumpRange, uplinkRange, codeOf}
+use Rattle.unit.specs.State.{withLedger, withControl, withWatch, withAllowed, withRequests, withAbort, counted, arrived, failed, cleared, moded, selected}
+use Rattle.unit.specs.Packet.{is, dumpRange, uplinkRange, commandOf, codeOf}
 use Rattle.unit.specs.Status.{statusOf}
 
 abbrev pub answer : ℕ → ℕ → Unit → Answer
-answer code length unit = record { code = code; length = length; unit = unit }
+answer code size unit = record { code = code; size = size; unit = unit }
 
 -- ── an obeyed packet
--- "every packet except an obeyed 01 adds 1 to TC_REC_PKTC and sets the log"
-abbrev pub logged : List ℕ → Unit → Unit
-logged p u = withLedger (received p (u .ledger)) u
-
--- "status block; STATUS_PC + 1"
-abbrev pub asked : Unit → Unit
-asked u = withControl (withRequests (counted (u .control .requests)) (u .control)) u
+-- the unit that a packet arrived in
+abbrev pub withArrival : List ℕ → Unit → Unit
+withArrival p u = withLedger (arrived p (u .ledger)) u
 
 -- the column "effect", on the unit
-unfoldable pub obeyedUnit : Kind → List ℕ → Unit → Unit
-obeyedUnit Status p u = asked u
-obeyedUnit Dump p u = logged p u
-obeyedUnit Allow p u = withControl (withAllowed true (u .control)) (logged p u)
-obeyedUnit Mode p u = moded (byteAt p 1) (logged p u)
-obeyedUnit Clear p u = withLedger (cleared (received p (u .ledger))) (withWatch (withAbort 0 (u .watch)) u)
-obeyedUnit Select p u = selected (byteAt p 1) (logged p u)
-obeyedUnit Uplink p u = logged p u
-obeyedUnit Foreign p u = logged p u
-obeyedUnit Unheard p u = logged p u
+unfoldable pub effect : Telecommand → List ℕ → Unit → Unit
+effect Status p u = withControl (withRequests (counted (u .control .requests)) (u .control)) u
+effect Dump p u = u
+effect Allow p u = withControl (withAllowed true (u .control)) u
+effect Mode p u = moded (byteAt p 1) u
+effect Clear p u = withLedger (cleared (u .ledger)) (withWatch (withAbort 0 (u .watch)) u)
+effect Select p u = selected (byteAt p 1) u
+effect Uplink p u = u
+effect Foreign p u = u
+effect Unheard p u = u
 
--- the bytes that answer it: the status block, or those of the dump's range alone
-unfoldable pub reply : Kind → Unit → ℕ → List ℕ → List ℕ → List ℕ → List ℕ
-reply Status u time seqs lists p = statusOf (asked u) time
-reply Dump u time seqs lists p = partOf seqs lists (tripleAt p 4) (dumpRange p)
-reply Allow u time seqs lists p = []
-reply Mode u time seqs lists p = []
-reply Clear u time seqs lists p = []
-reply Select u time seqs lists p = []
-reply Uplink u time seqs lists p = []
-reply Foreign u time seqs lists p = []
-reply Unheard u time seqs lists p = []
+-- "Every packet except an obeyed 01 adds 1 to TC_REC_PKTC and sets the log"
+unfoldable pub obeyedUnit : Telecommand → List ℕ → Unit → Unit
+obeyedUnit k p u = effect k p (cond (is Status k) u (withArrival p u))
 
--- an uplink's data goes into its range
-unfoldable pub obeyedSeqs : Kind → List ℕ → List ℕ → List ℕ
-obeyedSeqs Status p t = t
-obeyedSeqs Dump p t = t
-obeyedSeqs Allow p t = t
-obeyedSeqs Mode p t = t
-obeyedSeqs Clear p t = t
-obeyedSeqs Select p t = t
-obeyedSeqs Uplink p t = seqsWritten (uplinkRange p) t (drop 5 p)
-obeyedSeqs Foreign p t = t
-obeyedSeqs Unheard p t = t
+-- the bytes that answer it: the status block after this request, or those of the dump's range alone
+unfoldable pub reply : Telecommand → Unit → ℕ → List ℕ → List ℕ → List ℕ → List ℕ
+reply k u time seqs lists p =
+    cond (is Status k) (statusOf (obeyedUnit k p u) time)
+    (cond (is Dump k) (partOf seqs lists (tripleAt p 4) (dumpRange p))
+    [])
 
-unfoldable pub obeyedLists : Kind → List ℕ → List ℕ → List ℕ
-obeyedLists Status p t = t
-obeyedLists Dump p t = t
-obeyedLists Allow p t = t
-obeyedLists Mode p t = t
-obeyedLists Clear p t = t
-obeyedLists Select p t = t
-obeyedLists Uplink p t = listsWritten (uplinkRange p) t (drop 5 p)
-obeyedLists Foreign p t = t
-obeyedLists Unheard p t = t
+-- the range that its data goes into: an uplink's, or none
+abbrev pub writesTo : Telecommand → List ℕ → Range
+writesTo k p = cond (is Uplink k) (uplinkRange p) Wrong
 
 -- ── any packet
--- "16 and 17 change nothing and aren't counted."
+-- "a refused one also adds 1 to TC_FAILED_PKTC .."; "16 and 17 change nothing and aren't counted."
 unfoldable pub refusedUnit : ℕ → List ℕ → Unit → Unit
-refusedUnit code p u = cond (leb 16 code) u (withLedger (failed p code (u .ledger)) u)
+refusedUnit code p u = cond (leb 16 code) u (withLedger (failed (byteAt p 0) code (arrived p (u .ledger))) u)
 
-abbrev pub commandOf : List ℕ → Kind
-commandOf p = kindOf (byteAt p 0)
+unfoldable pub unitAfter : Format → Unit → List ℕ → List ℕ → List ℕ → List ℕ → Unit
+unitAfter F u seqs lists out p =
+    cond (eqb (codeOf F u seqs lists out p) 0) (obeyedUnit (commandOf p) p u) (refusedUnit (codeOf F u seqs lists out p) p u)
 
-unfoldable pub unitAfter : Unit → List ℕ → List ℕ → List ℕ → List ℕ → Unit
-unitAfter u seqs lists out p =
-    cond (eqb (codeOf u seqs lists out p) 0) (obeyedUnit (commandOf p) p u) (refusedUnit (codeOf u seqs lists out p) p u)
+unfoldable pub replyOf : Format → Unit → ℕ → List ℕ → List ℕ → List ℕ → List ℕ → List ℕ
+replyOf F u time seqs lists out p = cond (eqb (codeOf F u seqs lists out p) 0) (reply (commandOf p) u time seqs lists p) []
 
-unfoldable pub replyOf : Unit → ℕ → List ℕ → List ℕ → List ℕ → List ℕ → List ℕ
-replyOf u time seqs lists out p = cond (eqb (codeOf u seqs lists out p) 0) (reply (commandOf p) u time seqs lists p) []
-
-unfoldable pub answerOf : Unit → ℕ → List ℕ → List ℕ → List ℕ → List ℕ → Answer
-answerOf u time seqs lists out p =
-    answer (codeOf u seqs lists out p) (length (replyOf u time seqs lists out p)) (unitAfter u seqs lists out p)
+unfoldable pub answerOf : Format → Unit → ℕ → List ℕ → List ℕ → List ℕ → List ℕ → Answer
+answerOf F u time seqs lists out p =
+    answer (codeOf F u seqs lists out p) (length (replyOf F u time seqs lists out p)) (unitAfter F u seqs lists out p)
 
 -- "Refusals write no output and no table."
-unfoldable pub seqsAfter : Unit → List ℕ → List ℕ → List ℕ → List ℕ → List ℕ
-seqsAfter u seqs lists out p = cond (eqb (codeOf u seqs lists out p) 0) (obeyedSeqs (commandOf p) p seqs) seqs
+unfoldable pub seqsAfter : Format → Unit → List ℕ → List ℕ → List ℕ → List ℕ → List ℕ
+seqsAfter F u seqs lists out p = cond (eqb (codeOf F u seqs lists out p) 0) (seqsWritten (writesTo (commandOf p) p) seqs (drop 5 p)) seqs
 
-unfoldable pub listsAfter : Unit → List ℕ → List ℕ → List ℕ → List ℕ → List ℕ
-listsAfter u seqs lists out p = cond (eqb (codeOf u seqs lists out p) 0) (obeyedLists (commandOf p) p lists) lists
+unfoldable pub listsAfter : Format → Unit → List ℕ → List ℕ → List ℕ → List ℕ → List ℕ
+listsAfter F u seqs lists out p = cond (eqb (codeOf F u seqs lists out p) 0) (listsWritten (writesTo (commandOf p) p) lists (drop 5 p)) lists
 
 -- "Output past an answer stays."
-unfoldable pub outAfter : Unit → ℕ → List ℕ → List ℕ → List ℕ → List ℕ → List ℕ
-outAfter u time seqs lists out p =
-    replyOf u time seqs lists out p ++ drop (length (replyOf u time seqs lists out p)) out
+unfoldable pub outAfter : Format → Unit → ℕ → List ℕ → List ℕ → List ℕ → List ℕ → List ℕ
+outAfter F u time seqs lists out p =
+    replyOf F u time seqs lists out p ++ drop (length (replyOf F u time seqs lists out p)) out

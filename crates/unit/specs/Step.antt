@@ -1,9 +1,10 @@
 -- The unit's step: 16, then 17, then the runner's step, and what the status takes from its event.
 use Prim.Native.Nat.{ℕ}
-use mathlib.Core.Bool.{Bool, true, false, cond}
+use mathlib.Core.Bool.{cond}
 use mathlib.Core.List.{List, [], _∷_}
 use lib.Dec.{eqb}
 use Rattle.octets.specs.Rows.{Row, row, firstCode}
+use Rattle.memory.specs.declared.Format.{Format}
 use Rattle.memory.specs.Memory.{tablesWrong}
 use Rattle.sequence.specs.Env.{envOf}
 use Rattle.runner.specs.declared.Event.{Event}
@@ -31,18 +32,18 @@ watched (Call s) w = w
 watched End w = w
 watched (Abort code s place) w = withAbort code w
 
-unfoldable pub stepRows : Unit → List ℕ → List ℕ → List Row
-stepRows u seqs lists = row 16 (tablesWrong seqs lists) ∷ row 17 (outOfRange u) ∷ []
+unfoldable pub stepRows : Format → Unit → List ℕ → List ℕ → List Row
+stepRows F u seqs lists = row 16 (tablesWrong seqs lists) ∷ row 17 (outOfRange F u) ∷ []
 
 abbrev pub stepped : Outcome → Unit → UnitStep
 stepped o u = record { outcome = o; unit = u }
 
 -- the runner's step taken into the unit
-unfoldable pub taken : Unit → Stepped → UnitStep
-taken u r = stepped (Saw (r .event)) (withWatch (watched (r .event) (u .watch)) (withRunner (r .runner) u))
+unfoldable pub withStep : Unit → Stepped → UnitStep
+withStep u r = stepped (Saw (r .event)) (withWatch (watched (r .event) (u .watch)) (withRunner (r .runner) u))
 
 abbrev pub unitStepBy : ℕ → Unit → Stepped → UnitStep
-unitStepBy code u r = cond (eqb code 0) (taken u r) (stepped (Denied code) u)
+unitStepBy code u r = cond (eqb code 0) (withStep u r) (stepped (Denied code) u)
 
-unfoldable pub unitStep : Unit → List ℕ → List ℕ → UnitStep
-unitStep u seqs lists = unitStepBy (firstCode (stepRows u seqs lists)) u (stepOf (envOf lists) seqs (u .runner))
+unfoldable pub unitStep : Format → Unit → List ℕ → List ℕ → UnitStep
+unitStep F u seqs lists = unitStepBy (firstCode (stepRows F u seqs lists)) u (stepOf (envOf F lists) seqs (u .runner))

@@ -3,19 +3,22 @@ ghost use Prim.Native.Nat.{_*_, _%_, _≤_};
 ghost use mathlib.Core.Path.{_≡_};
 ghost use mathlib.Core.Bool.{true, cond, not, _&&_, _||_};
 ghost use mathlib.Core.List.{[], _∷_, _++_};
-ghost use lib.Dec.{ltb};
-ghost use lib.ListN.{length, drop};
+ghost use lib.Dec.{ltb, leb};
+ghost use lib.ListN.{length, drop, set};
+ghost use lib.Seq.{sets};
 ghost use Rattle.octets.specs.Bytes.{tripleAt, halves, two, four};
 ghost use Rattle.octets.specs.Rows.{row, firstCode};
-ghost use Rattle.memory.specs.Memory.{windowCode, windowPart, partOf};
-ghost use Rattle.unit.specs.State.{powerOn, beyond, runsWrong, some, rangeTests, outOfRange, withLedger, withWatch, withAbort, withMode, withControl, withAllowed, counted, logOf, received, failed, cleared, started, stopped, moded, selected};
-ghost use Rattle.unit.specs.Packet.{between, foreign, dumpRange, uplinkRange, kindOf, isForeign, isUnheard, lengthGood, pairAllowed, ownRows, lentWrong, codeOf};
-ghost use Rattle.unit.specs.Status.{piece, laid, running, orZero, statusOf};
-ghost use Rattle.unit.specs.Answer.{logged, asked, obeyedUnit, reply, obeyedSeqs, obeyedLists, refusedUnit, answerOf, seqsAfter, listsAfter, outAfter};
-ghost use Rattle.unit.specs.Step.{watched, stepRows, taken, unitStep};
+ghost use Rattle.memory.specs.Memory.{windowCode, windowPart, partOf, seqsWritten, listsWritten};
+ghost use Rattle.unit.specs.State.{powerOn, beyond, runsWrong, some, rangeTests, outOfRange, withLedger, withWatch, withAbort, withMode, withControl, withAllowed, withRequests, counted, logOf, arrived, failed, cleared, started, stopped, moded, selected};
+ghost use Rattle.unit.specs.Packet.{fromTo, foreign, dumpRange, uplinkRange, telecommandOf, shapeRows, pairAllowed, ownRows, lentWrong, codeOf};
+ghost use Rattle.unit.specs.Status.{running, orZero, statusOf};
+ghost use Rattle.unit.specs.Answer.{withArrival, obeyedUnit, reply, writesTo, refusedUnit, answerOf, seqsAfter, listsAfter, outAfter};
+ghost use Rattle.unit.specs.Step.{watched, stepRows, withStep, unitStep};
 use memory::Address;
+use memory::Format;
 use memory::Range;
 use runner::Event;
+use runner::OpenRaster;
 use runner::Runner;
 use runner::Stepped;
 
@@ -62,7 +65,7 @@ pub struct Unit {
 }
 
 // The command that a packet's BC1 names: one of the table, one of another subsystem (5), or unknown (6).
-pub enum Kind {
+pub enum Telecommand {
     Status,
     Dump,
     Allow,
@@ -74,10 +77,10 @@ pub enum Kind {
     Unheard,
 }
 
-// What a packet is answered: the code, the length of what was written to the output, and the unit after it.
+// What a packet is answered: the code, the size of what was written to the output, and the unit after it.
 pub struct Answer {
     pub code: u8,
-    pub length: usize,
+    pub size: usize,
     pub unit: Unit,
 }
 
@@ -113,16 +116,16 @@ impl Ledger {
 }
 
 impl Unit {
-    // The mirror's end stop, the tables' sizes and counts, and the longest packet.
+    // The mirror's end stop, the tables' counts and sizes, and the longest packet.
     pub const END_STOP: u16 = Runner::END_STOP;
 
-    pub const SEQUENCE_TABLE: usize = memory::SEQUENCE_TABLE;
+    pub const SEQUENCES: usize = memory::SEQUENCES;
 
-    pub const LINE_LIST_TABLE: usize = memory::LINE_LIST_TABLE;
+    pub const LINE_LISTS: usize = memory::LINE_LISTS;
 
-    pub const SEQUENCES: u8 = memory::SEQUENCES as u8;
+    pub const SEQUENCE_TABLE: usize = Unit::SEQUENCES * memory::SEQUENCE_SIZE;
 
-    pub const LINE_LISTS: u8 = memory::LINE_LISTS as u8;
+    pub const LINE_LIST_TABLE: usize = Unit::LINE_LISTS * memory::LINE_LIST_SIZE;
 
     pub const LONGEST_PACKET: usize = 133;
 
@@ -148,10 +151,12 @@ impl Unit {
                 place: 0,
                 running: false,
                 entering: false,
-                raster: Runner::NONE,
-                count: 0,
-                passes: 0,
-                repeats: 0,
+                raster: OpenRaster {
+                    place: Runner::NONE,
+                    count: 0,
+                    passes: 0,
+                    repeats: 0,
+                },
                 rounds: 0,
                 mirror: 0,
             },
@@ -166,11 +171,21 @@ fn both(test: bool, rest: bool) -> bool
     if test { rest } else { false }
 }
 
-// Whether a number that may be none is above 127, the last sequence's number and the last place.
-fn beyond(n: u8) -> bool
-    ensures { λ r. ⌜ r ≡ beyond n ⌝ }
+// Whether a sequence's number that may be none is above the last one.
+fn beyond(last: u8, n: u8) -> bool
+    ensures { λ r. ⌜ r ≡ beyond last n ⌝ }
 {
-    both(memory::LAST_SEQUENCE < n, n != Runner::NONE)
+    both(last < n, n != Runner::NONE)
+}
+
+// Whether a sequence has no such place. Bytes are compared: a wider test does not fold with that for none.
+fn no_place(format: Format, place: u8) -> bool
+    ensures { λ r. ⌜ r ≡ leb (format .size) place ⌝ }
+{
+    if 255 < format.size {
+        return false;
+    }
+    format.size as u8 <= place
 }
 
 impl Unit {
@@ -192,19 +207,22 @@ impl Unit {
 
     // Whether the place, the open raster's place, the line list, the mirror, the exposures in the set or the run itself
     // is out of range: the tests from the seventh on.
-    fn run_out_of_range(self) -> bool
-        ensures { λ r. ⌜ r ≡ some (drop 6 (rangeTests self)) ⌝ }
+    fn run_out_of_range(self, format: Format) -> bool
+        ensures { λ r. ⌜ r ≡ some (drop 6 (rangeTests format self)) ⌝ }
     {
         octets::either(
-            memory::LAST_PLACE < self.runner.place,
+            no_place(format, self.runner.place),
             octets::either(
-                beyond(self.runner.raster),
+                both(
+                    no_place(format, self.runner.raster.place),
+                    self.runner.raster.place != Runner::NONE,
+                ),
                 octets::either(
                     memory::LAST_LINE_LIST < self.watch.list,
                     octets::either(
                         Unit::END_STOP < self.runner.mirror,
                         octets::either(
-                            Runner::FULL_SET < self.runner.count,
+                            Runner::FULL_SET < self.runner.raster.count,
                             octets::either(self.runs_wrong(), false),
                         ),
                     ),
@@ -214,8 +232,8 @@ impl Unit {
     }
 
     // Whether the state is out of range.
-    pub fn out_of_range(self) -> bool
-        ensures { λ r. ⌜ r ≡ outOfRange self ⌝ }
+    pub fn out_of_range(self, format: Format) -> bool
+        ensures { λ r. ⌜ r ≡ outOfRange format self ⌝ }
     {
         octets::either(
             self.control.mode < 1,
@@ -226,8 +244,11 @@ impl Unit {
                     octets::either(
                         15 < self.watch.abort,
                         octets::either(
-                            beyond(self.runner.sequence),
-                            octets::either(beyond(self.control.selection), self.run_out_of_range()),
+                            beyond(format.last, self.runner.sequence),
+                            octets::either(
+                                beyond(format.last, self.control.selection),
+                                self.run_out_of_range(format),
+                            ),
                         ),
                     ),
                 ),
@@ -268,8 +289,8 @@ fn counted(n: u16) -> u16
 
 impl Ledger {
     // A packet counted and logged.
-    fn received(self, pkt: &[u8]) -> Ledger
-        ensures { λ r. ⌜ r ≡ received (now (pkt .entry)) self ⌝ }
+    fn arrived(self, pkt: &[u8]) -> Ledger
+        ensures { λ r. ⌜ r ≡ arrived (now (pkt .entry)) self ⌝ }
     {
         Ledger {
             received: counted(self.received),
@@ -278,15 +299,15 @@ impl Ledger {
         }
     }
 
-    // A packet counted, logged and refused with a code.
-    fn failed(self, pkt: &[u8], code: u8) -> Ledger
-        ensures { λ r. ⌜ r ≡ failed (now (pkt .entry)) code self ⌝ }
+    // A failure counted and shown.
+    fn failed(self, number: u8, code: u8) -> Ledger
+        ensures { λ r. ⌜ r ≡ failed number code self ⌝ }
     {
         Ledger {
             failed: counted(self.failed),
             code,
-            number: octets::byte(pkt, 0),
-            ..self.received(pkt)
+            number,
+            ..self
         }
     }
 
@@ -303,19 +324,19 @@ impl Ledger {
 }
 
 impl Unit {
-    // An obeyed packet, counted and logged.
-    fn logged(self, pkt: &[u8]) -> Unit
-        ensures { λ r. ⌜ r ≡ logged (now (pkt .entry)) self ⌝ }
+    // The unit that a packet arrived in.
+    fn with_arrival(self, pkt: &[u8]) -> Unit
+        ensures { λ r. ⌜ r ≡ withArrival (now (pkt .entry)) self ⌝ }
     {
         Unit {
-            ledger: self.ledger.received(pkt),
+            ledger: self.ledger.arrived(pkt),
             ..self
         }
     }
 
-    // A status request, counted by STATUS_PC alone.
+    // A status request counted.
     fn asked(self) -> Unit
-        ensures { λ r. ⌜ r ≡ asked self ⌝ }
+        ensures { λ r. ⌜ r ≡ withControl (withRequests (counted (self .control .requests)) (self .control)) self ⌝ }
     {
         Unit {
             control: Control {
@@ -353,15 +374,11 @@ impl Unit {
         }
     }
 
-    // AUTO, with the selected sequence to be entered.
+    // The selected sequence started, to be entered.
     fn started(self) -> Unit
         ensures { λ r. ⌜ r ≡ started self ⌝ }
     {
         Unit {
-            control: Control {
-                mode: 3,
-                ..self.control
-            },
             watch: Watch {
                 exposures: 0,
                 abort: 0,
@@ -370,7 +387,10 @@ impl Unit {
             runner: Runner {
                 sequence: self.control.selection,
                 place: 0,
-                raster: Runner::NONE,
+                raster: OpenRaster {
+                    place: Runner::NONE,
+                    ..self.runner.raster
+                },
                 running: true,
                 entering: true,
                 ..self.runner
@@ -414,7 +434,7 @@ impl Unit {
         ensures { λ r. ⌜ r ≡ moded mode self ⌝ }
     {
         if mode == 3 {
-            return self.started();
+            return self.started().in_mode(mode);
         }
         if self.runner.running {
             return self.stopped().in_mode(mode);
@@ -442,8 +462,8 @@ impl Unit {
 }
 
 // Whether a number lies from one to another.
-fn between(from: u8, to: u8, n: u8) -> bool
-    ensures { λ r. ⌜ r ≡ between from to n ⌝ }
+fn from_to(from: u8, to: u8, n: u8) -> bool
+    ensures { λ r. ⌜ r ≡ fromTo from to n ⌝ }
 {
     both(from <= n, n <= to)
 }
@@ -455,12 +475,12 @@ fn foreign(n: u8) -> bool
     octets::either(
         n == 0x00,
         octets::either(
-            between(0x10, 0x1F, n),
+            from_to(0x10, 0x1F, n),
             octets::either(
-                between(0xE0, 0xE4, n),
+                from_to(0xE0, 0xE4, n),
                 octets::either(
-                    between(0xF0, 0xF4, n),
-                    octets::either(between(0xF6, 0xFF, n), false),
+                    from_to(0xF0, 0xF4, n),
+                    octets::either(from_to(0xF6, 0xFF, n), false),
                 ),
             ),
         ),
@@ -468,77 +488,44 @@ fn foreign(n: u8) -> bool
 }
 
 // The command that BC1 names.
-pub fn kind_of(bc1: u8) -> Kind
-    ensures { λ r. ⌜ r ≡ kindOf bc1 ⌝ }
+pub fn telecommand_of(bc1: u8) -> Telecommand
+    ensures { λ r. ⌜ r ≡ telecommandOf bc1 ⌝ }
 {
     match bc1 {
-        0x01 => Kind::Status,
-        0x07 => Kind::Dump,
-        0x20 => Kind::Allow,
-        0x21 => Kind::Mode,
-        0x23 => Kind::Clear,
-        0x83 => Kind::Select,
-        0xE7 => Kind::Uplink,
+        0x01 => Telecommand::Status,
+        0x07 => Telecommand::Dump,
+        0x20 => Telecommand::Allow,
+        0x21 => Telecommand::Mode,
+        0x23 => Telecommand::Clear,
+        0x83 => Telecommand::Select,
+        0xE7 => Telecommand::Uplink,
         _ => {
             if foreign(bc1) {
-                Kind::Foreign
+                Telecommand::Foreign
             } else {
-                Kind::Unheard
+                Telecommand::Unheard
             }
         }
     }
 }
 
-impl Kind {
-    // Whether it is another subsystem's command.
-    fn is_foreign(self) -> bool
-        ensures { λ r. ⌜ r ≡ isForeign self ⌝ }
-    {
-        match self {
-            Kind::Status => false,
-            Kind::Dump => false,
-            Kind::Allow => false,
-            Kind::Mode => false,
-            Kind::Clear => false,
-            Kind::Select => false,
-            Kind::Uplink => false,
-            Kind::Foreign => true,
-            Kind::Unheard => false,
-        }
-    }
-
-    // Whether it is no command of this unit or of another subsystem.
-    fn is_unheard(self) -> bool
-        ensures { λ r. ⌜ r ≡ isUnheard self ⌝ }
-    {
-        match self {
-            Kind::Status => false,
-            Kind::Dump => false,
-            Kind::Allow => false,
-            Kind::Mode => false,
-            Kind::Clear => false,
-            Kind::Select => false,
-            Kind::Uplink => false,
-            Kind::Foreign => false,
-            Kind::Unheard => true,
-        }
-    }
-
-    // Whether the packet is as long as its command says.
-    fn length_good(self, pkt: &[u8]) -> bool
-        ensures { λ r. ⌜ r ≡ lengthGood self (now (pkt .entry)) ⌝ }
+impl Telecommand {
+    // What a packet is refused with for its command and its length: 5 for another subsystem's, 6 for an unknown one, 1 for
+    // another length than the command's, or 0.
+    fn shape_fault(self, pkt: &[u8]) -> u8
+        ensures { λ r. ⌜ r ≡ firstCode (shapeRows self (now (pkt .entry))) ⌝ }
     {
         let n = pkt.len();
         match self {
-            Kind::Status => n == 1,
-            Kind::Dump => n == 7,
-            Kind::Allow => both(1 <= n, n <= 2),
-            Kind::Mode => n == 2,
-            Kind::Clear => n == 1,
-            Kind::Select => n == 2,
-            Kind::Uplink => n == 5 + octets::byte(pkt, 4) as usize,
-            Kind::Foreign => true,
-            Kind::Unheard => true,
+            Telecommand::Status => octets::refuse(n != 1, 1, 0),
+            Telecommand::Dump => octets::refuse(n != 7, 1, 0),
+            Telecommand::Allow => octets::refuse(!both(1 <= n, n <= 2), 1, 0),
+            Telecommand::Mode => octets::refuse(n != 2, 1, 0),
+            Telecommand::Clear => octets::refuse(n != 1, 1, 0),
+            Telecommand::Select => octets::refuse(n != 2, 1, 0),
+            Telecommand::Uplink => octets::refuse(n != 5 + octets::byte(pkt, 4) as usize, 1, 0),
+            Telecommand::Foreign => 5,
+            Telecommand::Unheard => 6,
         }
     }
 }
@@ -576,14 +563,14 @@ fn uplink_range(pkt: &[u8]) -> Range
 impl Unit {
     // What a mode change is refused with.
     fn mode_fault(self, pkt: &[u8]) -> u8
-        ensures { λ r. ⌜ r ≡ firstCode (ownRows Kind.Mode self (now (pkt .entry))) ⌝ }
+        ensures { λ r. ⌜ ((F : Format) → r ≡ firstCode (ownRows F Telecommand.Mode self (now (pkt .entry)))) ⌝ }
     {
         let mode = octets::byte(pkt, 1);
         octets::refuse(
             !self.control.allowed,
             4,
             octets::refuse(
-                !between(1, 5, mode),
+                !from_to(1, 5, mode),
                 9,
                 octets::refuse(
                     3 < mode,
@@ -603,17 +590,17 @@ impl Unit {
     }
 
     // What a selection is refused with.
-    fn select_fault(self, pkt: &[u8]) -> u8
-        ensures { λ r. ⌜ r ≡ firstCode (ownRows Kind.Select self (now (pkt .entry))) ⌝ }
+    fn select_fault(self, format: Format, pkt: &[u8]) -> u8
+        ensures { λ r. ⌜ r ≡ firstCode (ownRows format Telecommand.Select self (now (pkt .entry))) ⌝ }
     {
         let outside = self.control.mode != 2;
-        let unknown = memory::LAST_SEQUENCE < octets::byte(pkt, 1);
+        let unknown = format.last < octets::byte(pkt, 1);
         octets::refuse(outside, 10, octets::refuse(unknown, 7, 0))
     }
 
     // What an uplink is refused with.
     fn uplink_fault(self, pkt: &[u8]) -> u8
-        ensures { λ r. ⌜ r ≡ firstCode (ownRows Kind.Uplink self (now (pkt .entry))) ⌝ }
+        ensures { λ r. ⌜ ((F : Format) → r ≡ firstCode (ownRows F Telecommand.Uplink self (now (pkt .entry)))) ⌝ }
     {
         octets::refuse(
             self.runner.running,
@@ -623,19 +610,19 @@ impl Unit {
     }
 
     // What the command's own checks refuse it with, 0 for nothing.
-    fn own_fault(self, kind: Kind, pkt: &[u8]) -> u8
-        ensures { λ r. ⌜ r ≡ firstCode (ownRows kind self (now (pkt .entry))) ⌝ }
+    fn own_fault(self, format: Format, command: Telecommand, pkt: &[u8]) -> u8
+        ensures { λ r. ⌜ r ≡ firstCode (ownRows format command self (now (pkt .entry))) ⌝ }
     {
-        match kind {
-            Kind::Status => 0,
-            Kind::Dump => octets::refuse(dump_range(pkt).is_wrong(), 7, 0),
-            Kind::Allow => 0,
-            Kind::Mode => self.mode_fault(pkt),
-            Kind::Clear => 0,
-            Kind::Select => self.select_fault(pkt),
-            Kind::Uplink => self.uplink_fault(pkt),
-            Kind::Foreign => 0,
-            Kind::Unheard => 0,
+        match command {
+            Telecommand::Status => 0,
+            Telecommand::Dump => octets::refuse(dump_range(pkt).is_wrong(), 7, 0),
+            Telecommand::Allow => 0,
+            Telecommand::Mode => self.mode_fault(pkt),
+            Telecommand::Clear => 0,
+            Telecommand::Select => self.select_fault(format, pkt),
+            Telecommand::Uplink => self.uplink_fault(pkt),
+            Telecommand::Foreign => 0,
+            Telecommand::Unheard => 0,
         }
     }
 }
@@ -652,13 +639,13 @@ pub fn lent_wrong(seqs: &[u8], lists: &[u8], out: &[u8]) -> bool
 
 impl Unit {
     // The code that a packet is answered: that of the first refusal that holds, or 0. No later one is looked at.
-    fn refusal(self, seqs: &[u8], lists: &[u8], out: &[u8], pkt: &[u8]) -> u8
-        ensures { λ r. ⌜ r ≡ codeOf self (now (seqs .entry)) (now (lists .entry)) (now (out .entry)) (now (pkt .entry)) ⌝ }
+    fn refusal(self, format: Format, seqs: &[u8], lists: &[u8], out: &[u8], pkt: &[u8]) -> u8
+        ensures { λ r. ⌜ r ≡ codeOf format self (now (seqs .entry)) (now (lists .entry)) (now (out .entry)) (now (pkt .entry)) ⌝ }
     {
         if lent_wrong(seqs, lists, out) {
             return 16;
         }
-        if self.out_of_range() {
+        if self.out_of_range(format) {
             return 17;
         }
         if pkt.len() == 0 {
@@ -667,17 +654,12 @@ impl Unit {
         if Unit::LONGEST_PACKET < pkt.len() {
             return 8;
         }
-        let kind = kind_of(octets::byte(pkt, 0));
-        if kind.is_foreign() {
-            return 5;
+        let command = telecommand_of(octets::byte(pkt, 0));
+        let code = command.shape_fault(pkt);
+        if code != 0 {
+            return code;
         }
-        if kind.is_unheard() {
-            return 6;
-        }
-        if !kind.length_good(pkt) {
-            return 1;
-        }
-        self.own_fault(kind, pkt)
+        self.own_fault(format, command, pkt)
     }
 }
 
@@ -698,7 +680,7 @@ fn or_zero(n: u8) -> u8
 // Writes how a status begins: byte 01, the size, and byte 0 of its block.
 fn put_head(out: &mut [u8])
     requires { ⌜ length (now out) ≡ 104 ⌝ }
-    ensures { λ _. ⌜ now (out .exit) ≡ laid (now (out .entry)) (piece 0 (0x01 ∷ []) ∷ piece 3 (0x64 ∷ 0x10 ∷ []) ∷ []) ⌝ }
+    ensures { λ _. ⌜ now (out .exit) ≡ sets (set (now (out .entry)) 0 0x01) 3 (0x64 ∷ 0x10 ∷ []) ⌝ }
 {
     out[0] = 0x01;
     out[3] = 0x64;
@@ -708,7 +690,7 @@ fn put_head(out: &mut [u8])
 // Writes the time that was given with the call.
 fn put_time(time: u32, out: &mut [u8])
     requires { ⌜ length (now out) ≡ 104 ⌝ }
-    ensures { λ _. ⌜ now (out .exit) ≡ laid (now (out .entry)) (piece 8 (four time) ∷ []) ⌝ }
+    ensures { λ _. ⌜ now (out .exit) ≡ sets (now (out .entry)) 8 (four time) ⌝ }
 {
     out[8] = (time / 16777216 % 256) as u8;
     out[9] = (time / 65536 % 256) as u8;
@@ -720,7 +702,7 @@ impl Control {
     // Writes the mode, the failed code beside it, and STATUS_PC.
     fn put(self, code: u8, out: &mut [u8])
         requires { ⌜ length (now out) ≡ 104 ⌝ }
-        ensures { λ _. ⌜ now (out .exit) ≡ laid (now (out .entry)) (piece 5 (halves (self .mode) code ∷ []) ∷ piece 6 (two (self .requests)) ∷ []) ⌝ }
+        ensures { λ _. ⌜ now (out .exit) ≡ sets (now (out .entry)) 5 (halves (self .mode) code ∷ two (self .requests)) ⌝ }
     {
         out[5] = self.mode % 16 * 16 + code % 16;
         out[6] = (self.requests / 256 % 256) as u8;
@@ -732,7 +714,7 @@ impl Ledger {
     // Writes the counts of received and failed packets.
     fn put_counts(self, out: &mut [u8])
         requires { ⌜ length (now out) ≡ 104 ⌝ }
-        ensures { λ _. ⌜ now (out .exit) ≡ laid (now (out .entry)) (piece 12 (two (self .received)) ∷ piece 16 (two (self .failed)) ∷ []) ⌝ }
+        ensures { λ _. ⌜ now (out .exit) ≡ sets (sets (now (out .entry)) 12 (two (self .received))) 16 (two (self .failed)) ⌝ }
     {
         out[12] = (self.received / 256 % 256) as u8;
         out[13] = (self.received % 256) as u8;
@@ -745,7 +727,7 @@ impl Log {
     // Writes the log.
     fn put(self, out: &mut [u8])
         requires { ⌜ length (now out) ≡ 104 ⌝ }
-        ensures { λ _. ⌜ now (out .exit) ≡ laid (now (out .entry)) (piece 68 (self .bc1 ∷ self .bc2 ∷ self .bc3 ∷ self .size ∷ []) ∷ []) ⌝ }
+        ensures { λ _. ⌜ now (out .exit) ≡ sets (now (out .entry)) 68 (self .bc1 ∷ self .bc2 ∷ self .bc3 ∷ self .size ∷ []) ⌝ }
     {
         out[68] = self.bc1;
         out[69] = self.bc2;
@@ -758,7 +740,7 @@ impl Watch {
     // Writes the line list, the exposures since AUTO and the abort code.
     fn put(self, out: &mut [u8])
         requires { ⌜ length (now out) ≡ 104 ⌝ }
-        ensures { λ _. ⌜ now (out .exit) ≡ laid (now (out .entry)) (piece 26 (self .list ∷ []) ∷ piece 28 (two (self .exposures)) ∷ piece 94 (self .abort % 16 * 16 ∷ []) ∷ []) ⌝ }
+        ensures { λ _. ⌜ now (out .exit) ≡ set (sets (set (now (out .entry)) 26 (self .list)) 28 (two (self .exposures))) 94 (self .abort % 16 * 16) ⌝ }
     {
         out[26] = self.list;
         out[28] = (self.exposures / 256 % 256) as u8;
@@ -770,7 +752,7 @@ impl Watch {
 // Writes the failed number, whether the unit runs, and its sequence and place.
 fn put_numbers(failed: u8, running: u8, sequence: u8, place: u8, out: &mut [u8])
     requires { ⌜ length (now out) ≡ 104 ⌝ }
-    ensures { λ _. ⌜ now (out .exit) ≡ laid (now (out .entry)) (piece 18 (failed ∷ []) ∷ piece 21 (running ∷ []) ∷ piece 24 (sequence ∷ place ∷ []) ∷ []) ⌝ }
+    ensures { λ _. ⌜ now (out .exit) ≡ sets (set (set (now (out .entry)) 18 failed) 21 running) 24 (sequence ∷ place ∷ []) ⌝ }
 {
     out[18] = failed;
     out[21] = running;
@@ -781,7 +763,7 @@ fn put_numbers(failed: u8, running: u8, sequence: u8, place: u8, out: &mut [u8])
 // Writes the mirror's position.
 fn put_mirror(mirror: u16, out: &mut [u8])
     requires { ⌜ length (now out) ≡ 104 ⌝ }
-    ensures { λ _. ⌜ now (out .exit) ≡ laid (now (out .entry)) (piece 30 (two mirror) ∷ []) ⌝ }
+    ensures { λ _. ⌜ now (out .exit) ≡ sets (now (out .entry)) 30 (two mirror) ⌝ }
 {
     out[30] = (mirror / 256 % 256) as u8;
     out[31] = (mirror % 256) as u8;
@@ -826,7 +808,7 @@ impl Unit {
     // Writes what answers an obeyed packet over the output's start and gives its length. What stands past it stays.
     fn reply<'a>(
         self,
-        kind: Kind,
+        command: Telecommand,
         seqs: &'a [u8],
         lists: &'a [u8],
         out: &mut [u8],
@@ -834,48 +816,40 @@ impl Unit {
         pkt: &[u8],
     ) -> usize
         requires { ⌜ 16384 ≤ length (now out) ⌝ }
-        ensures { λ r. ⌜ r ≡ length (reply kind self time (now (seqs .entry)) (now (lists .entry)) (now (pkt .entry))) ⌝ }
-        ensures { λ _. ⌜ now (out .exit) ≡ reply kind self time (now (seqs .entry)) (now (lists .entry)) (now (pkt .entry)) ++ drop (length (reply kind self time (now (seqs .entry)) (now (lists .entry)) (now (pkt .entry)))) (now (out .entry)) ⌝ }
+        ensures { λ r. ⌜ r ≡ length (reply command self time (now (seqs .entry)) (now (lists .entry)) (now (pkt .entry))) ⌝ }
+        ensures { λ _. ⌜ now (out .exit) ≡ reply command self time (now (seqs .entry)) (now (lists .entry)) (now (pkt .entry)) ++ drop (length (reply command self time (now (seqs .entry)) (now (lists .entry)) (now (pkt .entry)))) (now (out .entry)) ⌝ }
     {
-        match kind {
-            Kind::Status => {
-                self.asked().put_status(time, &mut out[..STATUS]);
-                STATUS
-            }
-            Kind::Dump => {
-                let part = dumped(seqs, lists, pkt);
-                memory::write(out, 0, part);
-                part.len()
-            }
-            Kind::Allow => 0,
-            Kind::Mode => 0,
-            Kind::Clear => 0,
-            Kind::Select => 0,
-            Kind::Uplink => 0,
-            Kind::Foreign => 0,
-            Kind::Unheard => 0,
+        if let Telecommand::Status = command {
+            self.asked().put_status(time, &mut out[..STATUS]);
+            return STATUS;
         }
+        if let Telecommand::Dump = command {
+            let part = dumped(seqs, lists, pkt);
+            memory::write(out, 0, part);
+            return part.len();
+        }
+        0
     }
 
-    // The unit after an obeyed packet. Each arm logs for itself: one unit logged before the match costs three times the
+    // The unit after an obeyed packet. Each arm takes the packet in for itself: one unit made before the match costs three times the
     // time, since it goes through memory.
-    fn obeyed(self, kind: Kind, pkt: &[u8]) -> Unit
-        ensures { λ r. ⌜ r ≡ obeyedUnit kind (now (pkt .entry)) self ⌝ }
+    fn obeyed(self, command: Telecommand, pkt: &[u8]) -> Unit
+        ensures { λ r. ⌜ r ≡ obeyedUnit command (now (pkt .entry)) self ⌝ }
     {
-        match kind {
-            Kind::Status => self.asked(),
-            Kind::Dump => self.logged(pkt),
-            Kind::Allow => self.logged(pkt).allowed(),
-            Kind::Mode => self.logged(pkt).moded(octets::byte(pkt, 1)),
-            Kind::Clear => self.logged(pkt).cleared(),
-            Kind::Select => self.logged(pkt).selected(octets::byte(pkt, 1)),
-            Kind::Uplink => self.logged(pkt),
-            Kind::Foreign => self.logged(pkt),
-            Kind::Unheard => self.logged(pkt),
+        match command {
+            Telecommand::Status => self.asked(),
+            Telecommand::Dump => self.with_arrival(pkt),
+            Telecommand::Allow => self.with_arrival(pkt).allowed(),
+            Telecommand::Mode => self.with_arrival(pkt).moded(octets::byte(pkt, 1)),
+            Telecommand::Clear => self.with_arrival(pkt).cleared(),
+            Telecommand::Select => self.with_arrival(pkt).selected(octets::byte(pkt, 1)),
+            Telecommand::Uplink => self.with_arrival(pkt),
+            Telecommand::Foreign => self.with_arrival(pkt),
+            Telecommand::Unheard => self.with_arrival(pkt),
         }
     }
 
-    // The unit after a refused packet: 16 and 17 change nothing.
+    // The unit after a refused packet: 16 and 17 change nothing. In either order, failure and arrival leave the same ledger.
     fn refused(self, code: u8, pkt: &[u8]) -> Unit
         ensures { λ r. ⌜ r ≡ refusedUnit code (now (pkt .entry)) self ⌝ }
     {
@@ -883,34 +857,24 @@ impl Unit {
             return self;
         }
         Unit {
-            ledger: self.ledger.failed(pkt, code),
+            ledger: self.ledger.failed(octets::byte(pkt, 0), code).arrived(pkt),
             ..self
         }
     }
 }
 
 // Writes an uplink's data into its range; another command writes nothing.
-fn uplink(kind: Kind, seqs: &mut [u8], lists: &mut [u8], pkt: &[u8])
-    ensures { λ _. ⌜ now (seqs .exit) ≡ obeyedSeqs kind (now (pkt .entry)) (now (seqs .entry)) ⌝ }
-    ensures { λ _. ⌜ now (lists .exit) ≡ obeyedLists kind (now (pkt .entry)) (now (lists .entry)) ⌝ }
+fn uplink(command: Telecommand, seqs: &mut [u8], lists: &mut [u8], pkt: &[u8])
+    ensures { λ _. ⌜ now (seqs .exit) ≡ seqsWritten (writesTo command (now (pkt .entry))) (now (seqs .entry)) (drop 5 (now (pkt .entry))) ⌝ }
+    ensures { λ _. ⌜ now (lists .exit) ≡ listsWritten (writesTo command (now (pkt .entry))) (now (lists .entry)) (drop 5 (now (pkt .entry))) ⌝ }
 {
-    match kind {
-        Kind::Status => {}
-        Kind::Dump => {}
-        Kind::Allow => {}
-        Kind::Mode => {}
-        Kind::Clear => {}
-        Kind::Select => {}
-        Kind::Uplink => {
-            memory::write_range(
-                seqs,
-                lists,
-                uplink_range(pkt),
-                octets::part(pkt, 5, pkt.len()),
-            );
-        }
-        Kind::Foreign => {}
-        Kind::Unheard => {}
+    if let Telecommand::Uplink = command {
+        memory::write_range(
+            seqs,
+            lists,
+            uplink_range(pkt),
+            octets::part(pkt, 5, pkt.len()),
+        );
     }
 }
 
@@ -918,33 +882,34 @@ impl Unit {
     // One packet: its answer, with the unit, the tables and the output after it.
     pub fn packet(
         self,
+        format: Format,
         seqs: &mut [u8],
         lists: &mut [u8],
         out: &mut [u8],
         time: u32,
         pkt: &[u8],
     ) -> Answer
-        ensures { λ r. ⌜ r ≡ answerOf self time (now (seqs .entry)) (now (lists .entry)) (now (out .entry)) (now (pkt .entry)) ⌝ }
-        ensures { λ _. ⌜ now (seqs .exit) ≡ seqsAfter self (now (seqs .entry)) (now (lists .entry)) (now (out .entry)) (now (pkt .entry)) ⌝ }
-        ensures { λ _. ⌜ now (lists .exit) ≡ listsAfter self (now (seqs .entry)) (now (lists .entry)) (now (out .entry)) (now (pkt .entry)) ⌝ }
-        ensures { λ _. ⌜ now (out .exit) ≡ outAfter self time (now (seqs .entry)) (now (lists .entry)) (now (out .entry)) (now (pkt .entry)) ⌝ }
+        ensures { λ r. ⌜ r ≡ answerOf format self time (now (seqs .entry)) (now (lists .entry)) (now (out .entry)) (now (pkt .entry)) ⌝ }
+        ensures { λ _. ⌜ now (seqs .exit) ≡ seqsAfter format self (now (seqs .entry)) (now (lists .entry)) (now (out .entry)) (now (pkt .entry)) ⌝ }
+        ensures { λ _. ⌜ now (lists .exit) ≡ listsAfter format self (now (seqs .entry)) (now (lists .entry)) (now (out .entry)) (now (pkt .entry)) ⌝ }
+        ensures { λ _. ⌜ now (out .exit) ≡ outAfter format self time (now (seqs .entry)) (now (lists .entry)) (now (out .entry)) (now (pkt .entry)) ⌝ }
     {
-        let code = self.refusal(seqs, lists, out, pkt);
+        let code = self.refusal(format, seqs, lists, out, pkt);
         if code != 0 {
             let unit = self.refused(code, pkt);
             return Answer {
                 code,
-                length: 0,
+                size: 0,
                 unit,
             };
         }
-        let kind = kind_of(octets::byte(pkt, 0));
-        let length = self.reply(kind, seqs, lists, out, time, pkt);
-        uplink(kind, seqs, lists, pkt);
-        let unit = self.obeyed(kind, pkt);
+        let command = telecommand_of(octets::byte(pkt, 0));
+        let size = self.reply(command, seqs, lists, out, time, pkt);
+        uplink(command, seqs, lists, pkt);
+        let unit = self.obeyed(command, pkt);
         Answer {
             code: 0,
-            length,
+            size,
             unit,
         }
     }
@@ -991,8 +956,8 @@ fn watched(event: Event, watch: Watch) -> Watch
 
 impl Unit {
     // The runner's step taken into the unit.
-    fn taken(self, stepped: Stepped) -> UnitStep
-        ensures { λ r. ⌜ r ≡ taken self stepped ⌝ }
+    fn with_step(self, stepped: Stepped) -> UnitStep
+        ensures { λ r. ⌜ r ≡ withStep self stepped ⌝ }
     {
         let event = stepped.event;
         let runner = stepped.runner;
@@ -1008,27 +973,27 @@ impl Unit {
     }
 
     // What a step is refused with: 16, then 17.
-    fn step_fault(self, seqs: &[u8], lists: &[u8]) -> u8
-        ensures { λ r. ⌜ r ≡ firstCode (stepRows self (now (seqs .entry)) (now (lists .entry))) ⌝ }
+    fn step_fault(self, format: Format, seqs: &[u8], lists: &[u8]) -> u8
+        ensures { λ r. ⌜ r ≡ firstCode (stepRows format self (now (seqs .entry)) (now (lists .entry))) ⌝ }
     {
         octets::refuse(
             memory::tables_wrong(seqs, lists),
             16,
-            octets::refuse(self.out_of_range(), 17, 0),
+            octets::refuse(self.out_of_range(format), 17, 0),
         )
     }
 
     // One step of the unit: 16, then 17, else the runner's step and what the status takes from its event.
-    pub fn step(self, seqs: &[u8], lists: &[u8]) -> UnitStep
-        ensures { λ r. ⌜ r ≡ unitStep self (now (seqs .entry)) (now (lists .entry)) ⌝ }
+    pub fn step(self, format: Format, seqs: &[u8], lists: &[u8]) -> UnitStep
+        ensures { λ r. ⌜ r ≡ unitStep format self (now (seqs .entry)) (now (lists .entry)) ⌝ }
     {
-        let code = self.step_fault(seqs, lists);
+        let code = self.step_fault(format, seqs, lists);
         if code != 0 {
             return UnitStep {
                 outcome: Outcome::Denied(code),
                 unit: self,
             };
         }
-        self.taken(self.runner.step(seqs, lists))
+        self.with_step(self.runner.step(format, seqs, lists))
     }
 }

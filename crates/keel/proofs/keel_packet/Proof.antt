@@ -10,22 +10,20 @@ returns : tie.Need-returns
 returns c = let a = c .before .before .before .before .before .before .before .before .before .before .before .before .args in
     held-back (a .state .now) (a .time) (a .seqs .now) (a .lists .now) (a .out .now) (a .packet .now) _ _ (c .before .before .before .lent-wrong .ensures) (c .before .held-code .ensures) (c .if1 .taken)
 
-unit-of-requires : tie.Need-unit-of-requires
-unit-of-requires c κs = held-passed _ _ (sym (c .before .before .held-code .ensures) ∙ c .before .if1 .left) .0
-
 save-answer-requires : tie.Need-save-answer-requires
-save-answer-requires c κs = held-passed _ _ (sym (c .before .before .before .before .before .before .before .before .before .before .before .before .before .before .held-code .ensures) ∙ c .before .before .before .before .before .before .before .before .before .before .before .before .before .if1 .left) .0
+save-answer-requires c κs = held-passed _ _ (sym (c .before .before .before .before .before .before .before .before .before .before .before .before .before .before .before .held-code .ensures) ∙ c .before .before .before .before .before .before .before .before .before .before .before .before .before .before .if1 .left) .0
 
 answer-of-requires : tie.Need-answer-of-requires
 answer-of-requires c κs = let b = c .before .before .before .before .before .before .before .before .before .before in
-    let a = b .before .before .before .before .before .before .before .before .before .before .before .before .before .before .before .before .before .before .args in
-    short (b .before .before .before .before .unit-of .result) (a .time) (a .seqs .now) (a .lists .now) (a .out .now) (a .packet .now) (b .packet .result) (b .packet .ensures .0)
+    let a = b .before .before .before .before .before .before .before .before .before .before .before .before .before .before .before .before .before .before .before .args in
+    short (b .before .before .before .before .before .unit-of .result) (a .time) (a .seqs .now) (a .lists .now) (a .out .now) (a .packet .now) (b .packet .result) (rw (b .before .before .before .before .flight .ensures) at (b .packet .ensures .0))
 
 returns-2 : tie.Need-returns-2
 returns-2 c = let b = c .before .before .before .before .before .before .before .before .before .before .before in
-    let d = b .before .before .before .before .before .before .before in
+    let d = b .before .before .before .before .before .before .before .before in
     let a = d .before .before .before .before .before .before .before .before .before .before .before .args in
-    rw (c .answer-of .ensures) (answered (a .state .now) (a .time) (a .seqs .now) (a .lists .now) (a .out .now) (a .packet .now) _ _ (d .before .before .lent-wrong .ensures) (d .held-code .ensures) (b .before .before .before .before .before .before .if1 .left) (b .before .before .before .before .unit-of .result) (b .before .before .before .before .unit-of .ensures) (b .packet .result) _ _ _ (b .packet .ensures) _ (λ i. d .before .before .before .before .before .before .before .before .before .before .slice-known .given i .fits) (c .before .before .before .save-answer .ensures))
+    let x = answered (a .state .now) (a .time) (a .seqs .now) (a .lists .now) (a .out .now) (a .packet .now) _ _ (d .before .before .lent-wrong .ensures) (d .held-code .ensures) (b .before .before .before .before .before .before .before .if1 .left) (b .before .before .before .before .before .unit-of .result) (b .before .before .before .before .before .unit-of .ensures) (b .packet .result) _ _ _ (rw (b .before .before .before .before .flight .ensures) at (b .packet .ensures)) _ (λ i. d .before .before .before .before .before .before .before .before .before .before .slice-known .given i .fits) (c .before .before .before .save-answer .ensures) in
+    (c .answer-of .ensures ∙ x .0, x .1)
 
 pub keel-packet-spec : {M : Type 1} → statement M
 keel-packet-spec =
@@ -39,7 +37,8 @@ keel-packet-spec =
     (λ c. search needs)
     (λ c. search needs)
     returns
-    unit-of-requires
+    (λ c κs. held-passed _ _ (sym (c .before .before .held-code .ensures) ∙ c .before .if1 .left) .0)
+    (λ c κs. search needs)
     (λ c κs. search needs)
     save-answer-requires
     answer-of-requires

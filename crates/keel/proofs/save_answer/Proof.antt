@@ -1,4 +1,4 @@
--- What the kind changes, the ledger, or nothing: a law for each.
+-- What the command changes, the ledger, or nothing: a law for each.
 use mathlib.Core.Path.{_∙_, sym, ap}
 use Rattle.keel.specs.State.{stateOf}
 use Rattle.keel.proofs.Ways.{answer-kept, answer-refused, answer-obeyed}
@@ -10,7 +10,7 @@ returns : tie.Need-returns
 returns c = let b = c .before .before .before .before .before .before in
     let a = b .before .before .before .before .before .args in
     let p = a .packet .now in
-    λ u t s l o e f. c .before .before .save-obeyed .ensures p u e (rw (c .before .before .before .before .kind-of .ensures, c .before .before .before .before .before .byte .ensures) (answer-obeyed u t s l o p (a .answer) f (b .if1 .taken)))
+    λ u t s l o e f. c .before .before .save-obeyed .ensures p u e (rw (c .before .before .before .before .telecommand-of .ensures, c .before .before .before .before .before .byte .ensures) (answer-obeyed u t s l o p (a .answer) f (b .if1 .taken)))
 
 returns-2 : tie.Need-returns-2
 returns-2 c = λ u t s l o e f. c .before .before .save-ledger .ensures ∙ answer-refused u t s l o _ _ f _ e (c .before .before .before .before .before .before .if1 .left)

@@ -18,12 +18,6 @@ abbrev μ-loop : tie.MeasureT-loop
 loop-holds : tie.Need-loop-holds Inv-loop μ-loop
 loop-holds c = (search needs, refl)
 
-shared-slice-read-is-hex : tie.Need-shared-slice-read-is-hex Inv-loop μ-loop
-shared-slice-read-is-hex c = search needs
-
-is-hex-requires : tie.Need-is-hex-requires Inv-loop μ-loop
-is-hex-requires c κs = search needs
-
 returns : tie.Need-returns Inv-loop μ-loop
 returns c =
     let c₃ = c .before .before .before in
@@ -31,12 +25,6 @@ returns c =
     let c₆ = c₄ .before .before in
     let b = c .before in
     sym (all-off isHex (c₆ .args .line .now) (c₄ .loop .i) (c₃ .loop-test .taken) (sym (b .is-hex .ensures) ∙ not-true (b .is-hex .result) (c .if1 .taken))) ∙ c₄ .loop .inv .1
-
-add-i : tie.Need-add-i Inv-loop μ-loop
-add-i c = search needs
-
-loop-less : tie.Need-loop-less Inv-loop μ-loop
-loop-less c = search needs
 
 loop-again : tie.Need-loop-again Inv-loop μ-loop
 loop-again c =
@@ -58,10 +46,10 @@ all-hex-spec =
     Inv-loop
     μ-loop
     loop-holds
-    shared-slice-read-is-hex
-    is-hex-requires
+    (λ c. search needs)
+    (λ c κs. search needs)
     returns
-    add-i
-    loop-less
+    (λ c. search needs)
+    (λ c. search needs)
     loop-again
     returns-2)

@@ -10,14 +10,8 @@ returns c = hex-before (c .before .args .b) (search needs) (search needs)
 returns-2 : tie.Need-returns-2
 returns-2 c = hex-past (c .before .before .args .b) (search needs) (search needs) (search needs)
 
-cast-result : tie.Need-cast-result
-cast-result c = search needs
-
-shr-result : tie.Need-shr-result
-shr-result c = search needs
-
 returns-3 : tie.Need-returns-3
 returns-3 c = hex-between (c .before .before .args .b) (search needs) (search needs) (search needs)
 
 pub is-hex-spec : {M : Type 1} → statement M
-is-hex-spec = tie.close (tie.spec returns returns-2 cast-result shr-result returns-3)
+is-hex-spec = tie.close (tie.spec returns returns-2 (λ c. search needs) (λ c. search needs) returns-3)

@@ -18,9 +18,6 @@ returns-2 c =
     let l = c₃ .args .line .now in
     simp (eq-eqb (length l % 2) 0 (c .before .if1 .left), lt-leb (length l) 280 (c .if2 .taken))
 
-all-hex-requires : tie.Need-all-hex-requires
-all-hex-requires c κs = search needs
-
 returns-3 : tie.Need-returns-3
 unfolding isPacket
 returns-3 c =
@@ -30,4 +27,4 @@ returns-3 c =
     simp (c .all-hex .ensures, eq-eqb (length l % 2) 0 (c₂ .if1 .left), le-leb (length l) 280 (c .before .if2 .left))
 
 pub is-packet-spec : {M : Type 1} → statement M
-is-packet-spec = tie.close (tie.spec returns returns-2 all-hex-requires returns-3)
+is-packet-spec = tie.close (tie.spec returns returns-2 (λ c κs. search needs) returns-3)

@@ -3,22 +3,19 @@ use Prim.Native.Nat.{_+_, _-_, _≤_}
 use mathlib.Core.Path.{_≡_, sym, _∙_}
 use lib.ListN.{length, drop}
 use borrow.Author.Needs.{needs}
-use Rattle.line.specs.Reading.{numberOf}
+use Rattle.line.specs.Reading.{numeralOf}
 use Rattle.line.proofs.ReadingLaws.{readOn, read-on, read-low, read-high, read-large, read-end, number-none, number-led, number-read}
 use Rattle.line.proofs.number.Statement.{statement}
 use Rattle.line.proofs.number.Tie as tie
 
 abbrev Inv-loop : tie.InvT-loop
-Inv-loop s from n₀ i₀ n i = (i ≤ length s) × (n ≤ 65535) × (readOn n (drop i s) ≡ numberOf (drop from s))
+Inv-loop s from n₀ i₀ n i = (i ≤ length s) × (n ≤ 65535) × (readOn n (drop i s) ≡ numeralOf (drop from s))
 
 abbrev μ-loop : tie.MeasureT-loop
 μ-loop s from n₀ i₀ n i = length s - i
 
 returns : tie.Need-returns Inv-loop μ-loop
 returns c = number-none (c .before .before .args .s .now) (c .before .before .args .from) (c .if1 .taken)
-
-zero-leads-requires : tie.Need-zero-leads-requires Inv-loop μ-loop
-zero-leads-requires c κs = search needs
 
 returns-2 : tie.Need-returns-2 Inv-loop μ-loop
 returns-2 c =
@@ -29,9 +26,6 @@ loop-holds : tie.Need-loop-holds Inv-loop μ-loop
 loop-holds c =
     let a = c .before .before .before .before .args in
     (search needs, search needs, number-read (a .s .now) (a .from) (c .before .before .if1 .left) (sym (c .before .zero-leads .ensures) ∙ c .if2 .left))
-
-shared-slice-read-b : tie.Need-shared-slice-read-b Inv-loop μ-loop
-shared-slice-read-b c = search needs
 
 returns-3 : tie.Need-returns-3 Inv-loop μ-loop
 returns-3 c =
@@ -47,15 +41,6 @@ returns-4 c =
     let s = t .before .before .before .before .before .before .args .s .now in
     sym (read-high s (l .i) (l .n) (t .loop-test .taken) (c .before .if3 .left) (c .if4 .taken)) ∙ l .inv .2
 
-mul-n : tie.Need-mul-n Inv-loop μ-loop
-mul-n c = search needs
-
-cast-n : tie.Need-cast-n Inv-loop μ-loop
-cast-n c = search needs
-
-add-n : tie.Need-add-n Inv-loop μ-loop
-add-n c = search needs
-
 returns-5 : tie.Need-returns-5 Inv-loop μ-loop
 returns-5 c =
     let t = c .before .before .before .before in
@@ -63,21 +48,12 @@ returns-5 c =
     let s = t .before .before .before .before .before .before .args .s .now in
     sym (read-large _ (drop (l .i + 1) s) (c .if5 .taken)) ∙ read-on s (l .i) (l .n) (t .loop-test .taken) (c .before .before .if3 .left) (c .before .if4 .left) ∙ l .inv .2
 
-add-i : tie.Need-add-i Inv-loop μ-loop
-add-i c = search needs
-
-loop-less : tie.Need-loop-less Inv-loop μ-loop
-loop-less c = search needs
-
 loop-again : tie.Need-loop-again Inv-loop μ-loop
 loop-again c =
     let t = c .before .before .before .before in
     let l = t .before .loop in
     let s = t .before .before .before .before .before .before .args .s .now in
     (search needs, c .if5 .left, read-on s (l .i) (l .n) (t .loop-test .taken) (c .before .before .if3 .left) (c .before .if4 .left) ∙ l .inv .2)
-
-cast-t15 : tie.Need-cast-t15 Inv-loop μ-loop
-cast-t15 c = search needs
 
 returns-6 : tie.Need-returns-6 Inv-loop μ-loop
 returns-6 c =
@@ -91,18 +67,18 @@ number-spec =
     Inv-loop
     μ-loop
     returns
-    zero-leads-requires
+    (λ c κs. search needs)
     returns-2
     loop-holds
-    shared-slice-read-b
+    (λ c. search needs)
     returns-3
     returns-4
-    mul-n
-    cast-n
-    add-n
+    (λ c. search needs)
+    (λ c. search needs)
+    (λ c. search needs)
     returns-5
-    add-i
-    loop-less
+    (λ c. search needs)
+    (λ c. search needs)
     loop-again
-    cast-t15
+    (λ c. search needs)
     returns-6)

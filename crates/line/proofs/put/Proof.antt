@@ -4,23 +4,11 @@ use Rattle.line.proofs.WritingLaws.{byte-in, byte-last, byte-past}
 use Rattle.line.proofs.put.Statement.{statement}
 use Rattle.line.proofs.put.Tie as tie
 
-slice-write-out : tie.Need-slice-write-out
-slice-write-out c = search needs
-
-add-result : tie.Need-add-result
-add-result c = search needs
-
-same-length : tie.Need-same-length
-same-length c = search needs
-
 returns : tie.Need-returns
 returns c = byte-in (c .before .args .out .now) (c .before .args .at) (c .before .args .b) (search needs)
 
 returns-2 : tie.Need-returns-2
 returns-2 c = let a = c .before .before .args in byte-last (a .out .now) (a .at) (a .b) (search needs) (search needs)
-
-add-result-2 : tie.Need-add-result-2
-add-result-2 c = search needs
 
 returns-3 : tie.Need-returns-3
 returns-3 c = let a = c .before .before .args in byte-past (a .out .now) (a .at) (a .b) (search needs) (search needs)
@@ -28,4 +16,4 @@ returns-3 c = let a = c .before .before .args in byte-past (a .out .now) (a .at)
 pub put-spec : {M : Type 1} → statement M
 put-spec =
     tie.close
-    (tie.spec slice-write-out add-result same-length returns returns-2 add-result-2 returns-3)
+    (tie.spec (λ c. search needs) (λ c. search needs) (λ c. search needs) returns returns-2 (λ c. search needs) returns-3)

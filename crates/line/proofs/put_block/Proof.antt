@@ -5,18 +5,6 @@ use Rattle.line.proofs.WritingLaws.{laid-then}
 use Rattle.line.proofs.put_block.Statement.{statement}
 use Rattle.line.proofs.put_block.Tie as tie
 
-put-kind-requires : tie.Need-put-kind-requires
-put-kind-requires c κs = search needs
-
-put-octets-requires : tie.Need-put-octets-requires
-put-octets-requires c κs = search needs
-
-put-requires : tie.Need-put-requires
-put-requires c κs = search needs
-
-same-length : tie.Need-same-length
-same-length c = search needs
-
 returns : tie.Need-returns
 unfolding blockText
 returns c =
@@ -27,4 +15,4 @@ returns c =
 
 pub put-block-spec : {M : Type 1} → statement M
 put-block-spec =
-    tie.close (tie.spec put-kind-requires put-octets-requires put-requires same-length returns)
+    tie.close (tie.spec (λ c κs. search needs) (λ c κs. search needs) (λ c κs. search needs) (λ c. search needs) returns)

@@ -5,24 +5,6 @@ use Rattle.line.proofs.WritingLaws.{laid-then, line-word, line-number}
 use Rattle.line.proofs.put_line_3.Statement.{statement}
 use Rattle.line.proofs.put_line_3.Tie as tie
 
-put-word-requires : tie.Need-put-word-requires
-put-word-requires c κs = search needs
-
-put-blank-number-requires : tie.Need-put-blank-number-requires
-put-blank-number-requires c κs = search needs
-
-put-blank-number-requires-2 : tie.Need-put-blank-number-requires-2
-put-blank-number-requires-2 c κs = search needs
-
-put-blank-number-requires-3 : tie.Need-put-blank-number-requires-3
-put-blank-number-requires-3 c κs = search needs
-
-put-requires : tie.Need-put-requires
-put-requires c κs = search needs
-
-same-length : tie.Need-same-length
-same-length c = search needs
-
 returns : tie.Need-returns
 returns c =
     let c₂ = c .before .before in
@@ -41,10 +23,10 @@ pub put-line-3-spec : {M : Type 1} → statement M
 put-line-3-spec =
     tie.close
     (tie.spec
-    put-word-requires
-    put-blank-number-requires
-    put-blank-number-requires-2
-    put-blank-number-requires-3
-    put-requires
-    same-length
+    (λ c κs. search needs)
+    (λ c κs. search needs)
+    (λ c κs. search needs)
+    (λ c κs. search needs)
+    (λ c κs. search needs)
+    (λ c. search needs)
     returns)

@@ -21,20 +21,8 @@ loop-holds c =
     let c₂ = c .before .before in
     (search needs, set-off (c₂ .args .out .now) (c₂ .args .at) (each spaced (c₂ .args .list .now)))
 
-shared-slice-read-put-blank-number : tie.Need-shared-slice-read-put-blank-number Inv-loop μ-loop
-shared-slice-read-put-blank-number c = search needs
-
 cast-put-blank-number : tie.Need-cast-put-blank-number Inv-loop μ-loop
 cast-put-blank-number c = omega (arith, c .shared-slice-known2 .given (c .before .before .before .loop .i))
-
-put-blank-number-requires : tie.Need-put-blank-number-requires Inv-loop μ-loop
-put-blank-number-requires c κs = search needs
-
-add-i : tie.Need-add-i Inv-loop μ-loop
-add-i c = search needs
-
-loop-less : tie.Need-loop-less Inv-loop μ-loop
-loop-less c = search needs
 
 loop-again : tie.Need-loop-again Inv-loop μ-loop
 loop-again c =
@@ -43,9 +31,6 @@ loop-again c =
     let c₆ = c₅ .before in
     let c₉ = c₆ .before .before .before in
     (search needs, each-step spaced (c₉ .args .list .now) (c₆ .loop .i) (c₅ .loop-test .taken) (c₆ .loop .inv .1) (c₂ .put-blank-number .ensures))
-
-same-length : tie.Need-same-length Inv-loop μ-loop
-same-length c = search needs
 
 returns : tie.Need-returns Inv-loop μ-loop
 returns c =
@@ -59,11 +44,11 @@ put-numbers-spec =
     Inv-loop
     μ-loop
     loop-holds
-    shared-slice-read-put-blank-number
+    (λ c. search needs)
     cast-put-blank-number
-    put-blank-number-requires
-    add-i
-    loop-less
+    (λ c κs. search needs)
+    (λ c. search needs)
+    (λ c. search needs)
     loop-again
-    same-length
+    (λ c. search needs)
     returns)

@@ -23,34 +23,16 @@ loop-holds c =
     let c₂ = c .before .before in
     (search needs, search needs, set-off (c₂ .args .out .now) (c₂ .args .at) (each hexOf (c₂ .args .s .now)))
 
-shared-slice-read-b : tie.Need-shared-slice-read-b Inv-loop μ-loop
-shared-slice-read-b c = search needs
-
 digit-requires : tie.Need-digit-requires Inv-loop μ-loop
 digit-requires c κs = omega (arith, c .shared-slice-known2 .given (c .before .before .loop .i))
 
-slice-write-out : tie.Need-slice-write-out Inv-loop μ-loop
-slice-write-out c = search needs
-
 digit-requires-2 : tie.Need-digit-requires-2 Inv-loop μ-loop
 digit-requires-2 c κs = omega arith
-
-add-out : tie.Need-add-out Inv-loop μ-loop
-add-out c = search needs
 
 slice-write-out-2 : tie.Need-slice-write-out-2 Inv-loop μ-loop
 slice-write-out-2 c =
     let c₄ = c .before .before .before .before in
     lt-length-set (c₄ .loop .out) (c₄ .loop .p) (c .before .digit .result) (omega arith)
-
-add-p : tie.Need-add-p Inv-loop μ-loop
-add-p c = search needs
-
-add-i : tie.Need-add-i Inv-loop μ-loop
-add-i c = search needs
-
-loop-less : tie.Need-loop-less Inv-loop μ-loop
-loop-less c = search needs
 
 loop-again : tie.Need-loop-again Inv-loop μ-loop
 loop-again c =
@@ -61,9 +43,6 @@ loop-again c =
     let two = octet-in (c₄ .loop .out) (c₄ .loop .p) b (c .before .digit .result) (c .digit2 .result) (search needs)
     (c .before .digit .ensures) (c .digit2 .ensures) in
     (search needs, search needs, each-step hexOf (c₇ .args .s .now) (c₄ .loop .i) (c₃ .loop-test .taken) (c₄ .loop .inv .2) two)
-
-same-length : tie.Need-same-length Inv-loop μ-loop
-same-length c = search needs
 
 returns : tie.Need-returns Inv-loop μ-loop
 returns c =
@@ -77,15 +56,15 @@ put-octets-within-spec =
     Inv-loop
     μ-loop
     loop-holds
-    shared-slice-read-b
+    (λ c. search needs)
     digit-requires
-    slice-write-out
+    (λ c. search needs)
     digit-requires-2
-    add-out
+    (λ c. search needs)
     slice-write-out-2
-    add-p
-    add-i
-    loop-less
+    (λ c. search needs)
+    (λ c. search needs)
+    (λ c. search needs)
     loop-again
-    same-length
+    (λ c. search needs)
     returns)

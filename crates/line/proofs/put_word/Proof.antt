@@ -18,18 +18,6 @@ loop-holds c =
     let c₂ = c .before .before in
     (search needs, set-off (c₂ .args .out .now) (c₂ .args .at) (each one (c₂ .args .word .now)))
 
-shared-slice-read-put : tie.Need-shared-slice-read-put Inv-loop μ-loop
-shared-slice-read-put c = search needs
-
-put-requires : tie.Need-put-requires Inv-loop μ-loop
-put-requires c κs = search needs
-
-add-i : tie.Need-add-i Inv-loop μ-loop
-add-i c = search needs
-
-loop-less : tie.Need-loop-less Inv-loop μ-loop
-loop-less c = search needs
-
 loop-again : tie.Need-loop-again Inv-loop μ-loop
 loop-again c =
     let c₂ = c .before .before in
@@ -37,9 +25,6 @@ loop-again c =
     let c₆ = c₅ .before in
     let c₉ = c₆ .before .before .before in
     (search needs, each-step one (c₉ .args .word .now) (c₆ .loop .i) (c₅ .loop-test .taken) (c₆ .loop .inv .1) (c₂ .put .ensures))
-
-same-length : tie.Need-same-length Inv-loop μ-loop
-same-length c = search needs
 
 returns : tie.Need-returns Inv-loop μ-loop
 returns c =
@@ -54,10 +39,10 @@ put-word-spec =
     Inv-loop
     μ-loop
     loop-holds
-    shared-slice-read-put
-    put-requires
-    add-i
-    loop-less
+    (λ c. search needs)
+    (λ c κs. search needs)
+    (λ c. search needs)
+    (λ c. search needs)
     loop-again
-    same-length
+    (λ c. search needs)
     returns)

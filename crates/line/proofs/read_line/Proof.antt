@@ -5,9 +5,6 @@ use Rattle.line.specs.Reading.{lineOf, packetAfter}
 use Rattle.line.proofs.read_line.Statement.{statement}
 use Rattle.line.proofs.read_line.Tie as tie
 
-is-packet-requires : tie.Need-is-packet-requires
-is-packet-requires c κs = search needs
-
 read-packet-requires : tie.Need-read-packet-requires
 read-packet-requires c κs = sym (c .before .before .is-packet .ensures) ∙ c .before .if1 .taken
 
@@ -19,13 +16,10 @@ returns c =
     let p = sym (c₃ .is-packet .ensures) ∙ c₂ .if1 .taken in
     (simp p, simp (p, c .read-packet .ensures))
 
-steps-requires : tie.Need-steps-requires
-steps-requires c κs = search needs
-
 returns-2 : tie.Need-returns-2
 unfolding lineOf packetAfter
 returns-2 c = let p = sym (c .before .before .is-packet .ensures) ∙ c .before .if1 .left in (simp (p, c .steps .ensures), simp p)
 
 pub read-line-spec : {M : Type 1} → statement M
 read-line-spec =
-    tie.close (tie.spec is-packet-requires read-packet-requires returns steps-requires returns-2)
+    tie.close (tie.spec (λ c κs. search needs) read-packet-requires returns (λ c κs. search needs) returns-2)

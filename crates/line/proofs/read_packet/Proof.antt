@@ -6,22 +6,19 @@ use mathlib.Core.Path.{sym, ap₂, _∙_, _≡_, refl}
 use lib.ListN.{drop}
 use borrow.Author.Needs.{needs}
 use Rattle.line.specs.Digits.{bytesIn}
-use Rattle.line.specs.Writing.{laid}
+use Rattle.line.specs.Writing.{putOver}
 use Rattle.line.proofs.ReadingLaws.{packet-told, packet-digit, packet-values, packet-on, packet-end}
 use Rattle.line.proofs.read_packet.Statement.{statement}
 use Rattle.line.proofs.read_packet.Tie as tie
 
 abbrev Inv-loop : tie.InvT-loop
-Inv-loop line packet₀ n i₀ packet i = (i ≤ n) × (laid packet i (bytesIn (drop (2 * i) line)) ≡ laid packet₀ 0 (bytesIn line))
+Inv-loop line packet₀ n i₀ packet i = (i ≤ n) × (putOver packet i (bytesIn (drop (2 * i) line)) ≡ putOver packet₀ 0 (bytesIn line))
 
 abbrev μ-loop : tie.MeasureT-loop
 μ-loop line packet₀ n i₀ packet i = n - i
 
 loop-holds : tie.Need-loop-holds Inv-loop μ-loop
 loop-holds c = (search needs, refl)
-
-mul-value : tie.Need-mul-value Inv-loop μ-loop
-mul-value c = search needs
 
 shared-slice-read-value : tie.Need-shared-slice-read-value Inv-loop μ-loop
 shared-slice-read-value c = omega arith
@@ -31,12 +28,6 @@ value-requires c κs =
     let c₂ = c .before .before in
     let c₄ = c₂ .before .before in
     packet-digit (c₄ .args .line .now) (c₄ .pre) (2 * c₂ .loop .i) (omega arith)
-
-mul-value-2 : tie.Need-mul-value-2 Inv-loop μ-loop
-mul-value-2 c = search needs
-
-add-value : tie.Need-add-value Inv-loop μ-loop
-add-value c = search needs
 
 shared-slice-read-value-2 : tie.Need-shared-slice-read-value-2 Inv-loop μ-loop
 shared-slice-read-value-2 c = omega arith
@@ -69,12 +60,6 @@ element-write-packet c =
     let t = packet-told (c₇ .args .line .now) (c₇ .pre) in
     omega arith
 
-add-i : tie.Need-add-i Inv-loop μ-loop
-add-i c = search needs
-
-loop-less : tie.Need-loop-less Inv-loop μ-loop
-loop-less c = search needs
-
 loop-again : tie.Need-loop-again Inv-loop μ-loop
 loop-again c =
     let c₂ = c .before .before in
@@ -99,17 +84,17 @@ read-packet-spec =
     Inv-loop
     μ-loop
     loop-holds
-    mul-value
+    (λ c. search needs)
     shared-slice-read-value
     value-requires
-    mul-value-2
-    add-value
+    (λ c. search needs)
+    (λ c. search needs)
     shared-slice-read-value-2
     value-requires-2
     mul-packet
     add-packet
     element-write-packet
-    add-i
-    loop-less
+    (λ c. search needs)
+    (λ c. search needs)
     loop-again
     returns)

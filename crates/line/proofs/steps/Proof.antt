@@ -1,31 +1,16 @@
 -- `steps` meets its contract, test by test. Assumes nothing.
 use borrow.Author.Tests.{not-true, not-false, eq-eqb, ne-eqb}
 use borrow.Author.Needs.{needs}
-use Rattle.line.specs.Reading.{stepsOf}
+use Rattle.line.specs.Reading.{stepsLine}
 use Rattle.line.proofs.steps.Statement.{statement}
 use Rattle.line.proofs.steps.Tie as tie
 
-slice-aggregate-begins : tie.Need-slice-aggregate-begins
-slice-aggregate-begins c = search needs
-
-begins-requires : tie.Need-begins-requires
-begins-requires c κs = search needs
-
 returns : tie.Need-returns
-unfolding stepsOf
+unfolding stepsLine
 returns c = simp (← c .before .begins .ensures, not-true (c .before .begins .result) (c .if1 .taken))
 
-number-requires : tie.Need-number-requires
-number-requires c κs = search needs
-
-enum-told : tie.Need-enum-told
-enum-told c = search needs
-
-enum-known-read : tie.Need-enum-known-read
-enum-known-read c = search needs
-
 returns-2 : tie.Need-returns-2
-unfolding stepsOf
+unfolding stepsLine
 returns-2 c =
     let c₂ = c .before .before in
     let c₄ = c₂ .before .before in
@@ -34,7 +19,7 @@ returns-2 c =
     simp (← c₆ .begins .ensures, not-false (c₆ .begins .result) (c₅ .if1 .left), ← c₄ .number .ensures, c₂ .read .given .1, eq-eqb (c₂ .read .given .0 .0) 0 (c .if2 .taken))
 
 returns-3 : tie.Need-returns-3
-unfolding stepsOf
+unfolding stepsLine
 returns-3 c =
     let c₂ = c .before .before in
     let c₃ = c₂ .before in
@@ -42,7 +27,7 @@ returns-3 c =
     simp (← c₄ .begins .ensures, not-false (c₄ .begins .result) (c₃ .if1 .left), ← c₂ .number .ensures, c .enum-told .given .1)
 
 returns-4 : tie.Need-returns-4
-unfolding stepsOf
+unfolding stepsLine
 returns-4 c =
     let c₂ = c .before .before in
     let c₄ = c₂ .before .before in
@@ -54,12 +39,12 @@ pub steps-spec : {M : Type 1} → statement M
 steps-spec =
     tie.close
     (tie.spec
-    slice-aggregate-begins
-    begins-requires
+    (λ c. search needs)
+    (λ c κs. search needs)
     returns
-    number-requires
-    enum-told
-    enum-known-read
+    (λ c κs. search needs)
+    (λ c. search needs)
+    (λ c. search needs)
     returns-2
     returns-3
     returns-4)

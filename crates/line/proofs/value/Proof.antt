@@ -4,14 +4,8 @@ use Rattle.line.proofs.DigitLaws.{hex-value}
 use Rattle.line.proofs.value.Statement.{statement}
 use Rattle.line.proofs.value.Tie as tie
 
-mul-result : tie.Need-mul-result
-mul-result c = search needs
-
-add-result : tie.Need-add-result
-add-result c = search needs
-
 returns : tie.Need-returns
 returns c = hex-value (c .args .b) (search needs) (c .pre)
 
 pub value-spec : {M : Type 1} → statement M
-value-spec = tie.close (tie.spec mul-result add-result returns)
+value-spec = tie.close (tie.spec (λ c. search needs) (λ c. search needs) returns)

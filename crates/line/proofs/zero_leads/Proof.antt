@@ -6,9 +6,6 @@ use Rattle.line.proofs.ReadingLaws.{no-zero, inside, zero-first}
 use Rattle.line.proofs.zero_leads.Statement.{statement}
 use Rattle.line.proofs.zero_leads.Tie as tie
 
-byte-requires : tie.Need-byte-requires
-byte-requires c κs = search needs
-
 returns : tie.Need-returns
 returns c =
     let c₃ = c .before .before .before in
@@ -25,4 +22,4 @@ returns-2 c =
     zero-first (c₃ .args .s .now) (c₃ .args .from) (sym (c .before .byte .ensures) ∙ c .if1 .left)
 
 pub zero-leads-spec : {M : Type 1} → statement M
-zero-leads-spec = tie.close (tie.spec byte-requires returns add-result returns-2)
+zero-leads-spec = tie.close (tie.spec (λ c κs. search needs) returns add-result returns-2)

@@ -17,15 +17,6 @@ abbrev μ-loop : tie.MeasureT-loop
 loop-holds : tie.Need-loop-holds Inv-loop μ-loop
 loop-holds c = (search needs, refl)
 
-shared-slice-read-x : tie.Need-shared-slice-read-x Inv-loop μ-loop
-shared-slice-read-x c = search needs
-
-add-i : tie.Need-add-i Inv-loop μ-loop
-add-i c = search needs
-
-loop-less : tie.Need-loop-less Inv-loop μ-loop
-loop-less c = search needs
-
 loop-again : tie.Need-loop-again Inv-loop μ-loop
 loop-again c = (search needs, xor-step _ _ _ (c .before .loop-test .taken) ∙ c .before .before .loop .inv .1)
 
@@ -35,4 +26,4 @@ returns c = sym (xor-end _ _ _ (c .loop-test .left)) ∙ c .before .loop .inv .1
 pub xor-on-spec : {M : Type 1} → statement M
 xor-on-spec =
     tie.close
-    (tie.spec Inv-loop μ-loop loop-holds shared-slice-read-x add-i loop-less loop-again returns)
+    (tie.spec Inv-loop μ-loop loop-holds (λ c. search needs) (λ c. search needs) (λ c. search needs) loop-again returns)

@@ -9,7 +9,8 @@ use lib.Dec.{eqb}
 use lib.ListN.{length-append}
 use borrow.Author.Tests.{le-ltb}
 use Rattle.octets.specs.Bytes.{byteAt}
-use Rattle.memory.specs.Memory.{tablesWrong}
+use Rattle.memory.specs.declared.Format.{Format}
+use Rattle.memory.specs.Memory.{flight, Fair, tablesWrong}
 use Rattle.sequence.specs.declared.Command.the-variants.{CallSequence}
 use Rattle.sequence.specs.Starts.{among}
 use Rattle.sequence.specs.Env.{Env, envOf, textOf}
@@ -19,16 +20,15 @@ use Rattle.survey.specs.declared.Item.{Item}
 use Rattle.survey.specs.declared.Closing.{Closing}
 use Rattle.survey.specs.declared.Closing.the-variants.{Terminates, CallsOn}
 use Rattle.survey.specs.declared.Ending.{Ending}
-use Rattle.survey.specs.declared.Ending.the-variants.{Unlisted, Finishes, Returns, Faulty}
+use Rattle.survey.specs.declared.Ending.the-variants.{Unlisted, Finishes, Returns, Faults}
 use Rattle.survey.specs.Turns.{turns}
 use Rattle.survey.specs.Items.{positionsOf}
-use Rattle.survey.specs.Walk.{Finding, passes, faults, checkOne}
+use Rattle.survey.specs.Walk.{Finding, passes, faults, checkOne, findingOf}
 use Rattle.survey.specs.Chain.{Told, told, total, onward, follow, chainOf, checkRows, checkOf}
-use Rattle.promises.specs.Range.{Fair}
 use Rattle.promises.specs.Runs.{done, Aborts, AtDoor}
 use Rattle.promises.specs.Positions.{chainPositions}
 use Rattle.promises.specs.Demand3.{lastOf, closingOf}
-use Rattle.promises.specs.Kept.{Ran, Stopped, KeptBy, Kept}
+use Rattle.promises.specs.Kept.{Ran, AtRest, KeptBy, Kept}
 use Rattle.promises.proofs.Run.Turns.{past-append}
 use Rattle.promises.proofs.Run.Runs.{_▸_}
 use Rattle.promises.proofs.Run.Sights.{endOf, sequenceSights}
@@ -42,11 +42,11 @@ use Rattle.promises.proofs.Text.TextOrder.{commandOf, closing-of}
 -- ── what is to be seen of a chain, from the mirror at m, and where the mirror then is
 abbrev pub findingSights : List ℕ → ℕ → Finding → ℕ → List Sight
 findingSights text n (passes k x items e closing) m = sequenceSights text n (byteAt text 3) items e closing m
-findingSights text n (faults p code) m = []
+findingSights text n (faults f) m = []
 
 abbrev pub findingEnd : List ℕ → Finding → ℕ → ℕ
 findingEnd text (passes k x items e closing) m = endOf text items m
-findingEnd text (faults p code) m = m
+findingEnd text (faults f) m = m
 
 unfoldable pub chainSights : Env → List ℕ → List ℕ → ℕ → List Sight
 chainSights E seqs [] m = []
@@ -64,21 +64,21 @@ CallsLast E seqs first (n ∷ ns) u = closingOf (textOf E seqs (lastOf n ns)) �
 
 -- at the door of that sequence, which was listed before or is listed now
 abbrev pub BackTo : Env → List ℕ → ℕ → List ℕ → List ℕ → ℕ → Runner → Type 0
-BackTo E seqs first before names m s = (n : ℕ) × (n ≤ E .last) × ((among n before || among n names) ≡ true) × AtDoor n m s × CallsLast E seqs first names n
+BackTo E seqs first before names m s = (n : ℕ) × (n ≤ E .format .last) × ((among n before || among n names) ≡ true) × AtDoor n m s × CallsLast E seqs first names n
 
 -- the promise for a chain from the first sequence with these names, where others are listed before
 unfoldable pub KeptFrom : Env → List ℕ → ℕ → List ℕ → List ℕ → Ending → ℕ → ℕ → ℕ → Runner → Type 0
 KeptFrom E seqs first before names (Unlisted code) k x m s = ⊥
-KeptFrom E seqs first before names Finishes k x m s = Ran E seqs (chainSights E seqs names m) names k x Stopped s
+KeptFrom E seqs first before names Finishes k x m s = Ran E seqs (chainSights E seqs names m) names k x AtRest s
 KeptFrom E seqs first before names Returns k x m s = Ran E seqs (chainSights E seqs names m) names k x (BackTo E seqs first before names (chainEnd E seqs names m)) s
-KeptFrom E seqs first before names (Faulty code n p) k x m s = Aborts E seqs code n p s
+KeptFrom E seqs first before names (Faults n f) k x m s = Aborts E seqs n f s
 
 module _ (E : Env) (seqs : List ℕ) where
   abbrev text : ℕ → List ℕ
   text n = textOf E seqs n
 
   -- no more is listed
-  kept-back : (before : List ℕ) (n m : ℕ) (s : Runner) → n ≤ E .last → AtDoor n m s → among n before ≡ true → KeptFrom E seqs n before [] Returns 0 0 m s
+  kept-back : (before : List ℕ) (n m : ℕ) (s : Runner) → n ≤ E .format .last → AtDoor n m s → among n before ≡ true → KeptFrom E seqs n before [] Returns 0 0 m s
   unfolding KeptFrom chainSights chainEnd chainPositions
   kept-back before n m s h d a = record { last = s; run = done; taken = refl; placed = refl; made = refl; inReach = tt; leaves = (n, h, rw a, d, refl) }
 
@@ -97,16 +97,16 @@ module _ (E : Env) (seqs : List ℕ) where
         record {
           last = i .last;
           run = rw says (o .ran ▸ i .run);
-          taken = rw says (omega (arith, length-append mine rest, length-sequence (text n) n q items e closing m, o .steps, i .taken));
-          placed = rw says (seen-both mine rest (sequence-seen E (text n) n (o .body) q m) (i .placed));
-          made = rw says (omega (arith, length-append shots (chainPositions E seqs names), length-rounds-positions (text n) items q, o .exposures, i .made));
-          inReach = rw says (past-append 2400 shots (chainPositions E seqs names) (rounds-in-reach (o .body) q) (i .inReach));
+          taken = rw says (omega (arith, length-append mine rest, length-sequence (text n) n q items e closing m, o .counted .1, i .taken));
+          placed = rw says (seen-both mine rest (sequence-seen E (text n) n (o .counted .0) q m) (i .placed));
+          made = rw says (omega (arith, length-append shots (chainPositions E seqs names), length-rounds-positions (text n) items q, o .counted .2, i .made));
+          inReach = rw says (past-append 2400 shots (chainPositions E seqs names) (rounds-in-reach (o .counted .0) q) (i .inReach));
           leaves = f (i .last) (i .leaves);
         }
 
     -- n calls the first of what comes after it
     called : (u : ℕ) → closing ≡ CallsOn u → (names : List ℕ) (v : ℕ) → CallsLast E seqs u names v → CallsLast E seqs n (n ∷ names) v
-    called u c [] v e = closing-of (o .body) ∙ ap commandOf c ∙ ap CallSequence e
+    called u c [] v e = closing-of (o .counted .0) ∙ ap commandOf c ∙ ap CallSequence e
     called u c (x ∷ names) v e = e
 
     kept-front : (u : ℕ) → closing ≡ CallsOn u → (before names : List ℕ) (ending : Ending) (k′ x′ : ℕ)
@@ -114,50 +114,53 @@ module _ (E : Env) (seqs : List ℕ) where
         → KeptFrom E seqs n before (n ∷ names) ending (total ending k k′) (total ending x x′) m s
     unfolding KeptFrom chainEnd among
     kept-front u c before names (Unlisted code) k′ x′ i = i
-    kept-front u c before names Finishes k′ x′ i = in-front names k′ x′ Stopped Stopped (λ s′ p. p) i
+    kept-front u c before names Finishes k′ x′ i = in-front names k′ x′ AtRest AtRest (λ s′ p. p) i
     kept-front u c before names Returns k′ x′ i =
         in-front names k′ x′ (BackTo E seqs u (n ∷ before) names (chainEnd E seqs names (endOf (text n) items m))) (BackTo E seqs n before (n ∷ names) (chainEnd E seqs (n ∷ names) m))
         (λ s′ b. (b .0, b .1, or-move (eqb n (b .0)) (among (b .0) before) (among (b .0) names) (b .2), rw says (b .3), called u c names (b .0) (b .4))) i
-    kept-front u c before names (Faulty code q p) k′ x′ i = record { sights = _; last = i .last; ran = o .ran ▸ i .ran; abort = i .abort }
+    kept-front u c before names (Faults q f) k′ x′ i = record { sights = _; last = i .last; ran = o .ran ▸ i .ran; abort = i .abort }
 
   abbrev KeptTold : ℕ → List ℕ → Told → ℕ → Runner → Type 0
   KeptTold first before t m s = KeptFrom E seqs first before (t .names) (t .ending) (t .steps) (t .exposures) m s
 
   -- `go` is the chain after sequence n, and `ih` what it promises
-  kept-onward : (before : List ℕ) (n : ℕ) (go : ℕ → Told) → ((u m : ℕ) (s : Runner) → u ≤ E .last → AtDoor u m s → KeptTold u (n ∷ before) (go u) m s)
+  kept-onward : (before : List ℕ) (n : ℕ) (go : ℕ → Told) → ((u m : ℕ) (s : Runner) → u ≤ E .format .last → AtDoor u m s → KeptTold u (n ∷ before) (go u) m s)
       → (m : ℕ) (s : Runner) (v : Finding) → checkOne E (text n) ≡ v → One E seqs n m v s → KeptTold n before (onward go n v) m s
   unfolding onward KeptFrom One After chainSights chainPositions
-  kept-onward before n go ih m s (faults p code) says o = o
+  kept-onward before n go ih m s (faults f) says o = o
   kept-onward before n go ih m s (passes k x items e Terminates) says o =
       let y : k + 0 ≡ k = omega arith in
       let z : x + 0 ≡ x = omega arith in
       rw (y, z) at
-      (in-front n m k x s says o [] 0 0 Stopped Stopped (λ s′ p. p)
+      (in-front n m k x s says o [] 0 0 AtRest AtRest (λ s′ p. p)
       (record { last = o .last; run = done; taken = refl; placed = refl; made = refl; inReach = tt; leaves = o .after }))
   kept-onward before n go ih m s (passes k x items e (CallsOn u)) says o =
       kept-front n m k x s says o u refl before (go u .names) (go u .ending) (go u .steps) (go u .exposures) (ih u (endOf (text n) items m) (o .last) (o .after .0) (o .after .1))
 
-  kept-follow : Fair E → (f : ℕ) (before : List ℕ) (n m : ℕ) (s : Runner) → unlisted (suc (E .last)) before ≤ f → n ≤ E .last → AtDoor n m s
-      → KeptTold n before (follow E seqs f before n) m s
+  kept-follow : Fair (E .format) → (f : ℕ) (before : List ℕ) (n m : ℕ) (s : Runner) → unlisted (suc (E .format .last)) before ≤ f → n ≤ E .format .last → AtDoor n m s
+      → KeptTold n before (follow (findingOf E seqs) f before n) m s
   unfolding follow
-  kept-follow fair zero before n m s u h d = kept-back before n m s h d (all-listed (suc (E .last)) n before u (omega arith))
+  kept-follow fair zero before n m s u h d = kept-back before n m s h d (all-listed (suc (E .format .last)) n before u (omega arith))
   kept-follow fair (suc f) before n m s u h d =
       go (among n before) refl
-      (λ e v m′ s′ l d′. kept-follow fair f (n ∷ before) v m′ s′ (let w = unlisted-less (suc (E .last)) n before (omega arith) e in omega arith) l d′)
+      (λ e v m′ s′ l d′. kept-follow fair f (n ∷ before) v m′ s′ (let w = unlisted-less (suc (E .format .last)) n before (omega arith) e in omega arith) l d′)
     where
       Rest : Type 0
-      Rest = (v m′ : ℕ) (s′ : Runner) → v ≤ E .last → AtDoor v m′ s′ → KeptTold v (n ∷ before) (follow E seqs f (n ∷ before) v) m′ s′
+      Rest = (v m′ : ℕ) (s′ : Runner) → v ≤ E .format .last → AtDoor v m′ s′ → KeptTold v (n ∷ before) (follow (findingOf E seqs) f (n ∷ before) v) m′ s′
 
       go : (b : Bool) → among n before ≡ b → (among n before ≡ false → Rest)
-          → KeptTold n before (cond b (told [] Returns 0 0) (onward (λ v. follow E seqs f (n ∷ before) v) n (checkOne E (text n)))) m s
+          → KeptTold n before (cond b (told [] Returns 0 0) (onward (λ v. follow (findingOf E seqs) f (n ∷ before) v) n (checkOne E (text n)))) m s
       go true e ih = kept-back before n m s h d e
-      go false e ih = kept-onward before n (λ v. follow E seqs f (n ∷ before) v) (ih e) m s (checkOne E (text n)) refl (one-sequence E fair seqs n m s d)
+      go false e ih = kept-onward before n (λ v. follow (findingOf E seqs) f (n ∷ before) v) (ih e) m s (checkOne E (text n)) refl (one-sequence E fair seqs n m s d)
 
 -- ── the whole check: nothing is listed before
-pub kept-exactly : (E : Env) → Fair E → (seqs : List ℕ) (n m : ℕ) (s : Runner) → n ≤ E .last → AtDoor n m s
-    → KeptFrom E seqs n [] (chainOf E seqs n .names) (chainOf E seqs n .ending) (chainOf E seqs n .steps) (chainOf E seqs n .exposures) m s
+abbrev pub chainIn : Env → List ℕ → ℕ → Told
+chainIn E seqs n = chainOf (E .format) (findingOf E seqs) n
+
+pub kept-exactly : (E : Env) → Fair (E .format) → (seqs : List ℕ) (n m : ℕ) (s : Runner) → n ≤ E .format .last → AtDoor n m s
+    → KeptFrom E seqs n [] (chainIn E seqs n .names) (chainIn E seqs n .ending) (chainIn E seqs n .steps) (chainIn E seqs n .exposures) m s
 unfolding chainOf
-kept-exactly E fair seqs n m s h d = kept-follow E seqs fair (suc (E .last)) [] n m s (unlisted-most (suc (E .last)) []) h d
+kept-exactly E fair seqs n m s h d = kept-follow E seqs fair (suc (E .format .last)) [] n m s (unlisted-most (suc (E .format .last)) []) h d
 
 -- the promise, whatever is seen on the way
 kept-from : (E : Env) (seqs : List ℕ) (first : ℕ) (t : Told) (m : ℕ) (s : Runner) (ending : Ending) → KeptFrom E seqs first [] (t .names) ending (t .steps) (t .exposures) m s → KeptBy E seqs t s ending
@@ -176,15 +179,15 @@ kept-from E seqs first t m s Returns i = (
     leaves = (i .leaves .0, chainEnd E seqs (t .names) m, i .leaves .1, i .leaves .2, i .leaves .3);
   },
 )
-kept-from E seqs first t m s (Faulty code n p) i = i
+kept-from E seqs first t m s (Faults n f) i = i
 
-pub kept : (E : Env) → Fair E → (seqs : List ℕ) (n m : ℕ) (s : Runner) → n ≤ E .last → AtDoor n m s → Kept E seqs (chainOf E seqs n) s
-kept E fair seqs n m s h d = kept-from E seqs n (chainOf E seqs n) m s (chainOf E seqs n .ending) (kept-exactly E fair seqs n m s h d)
+pub kept : (E : Env) → Fair (E .format) → (seqs : List ℕ) (n m : ℕ) (s : Runner) → n ≤ E .format .last → AtDoor n m s → Kept E seqs (chainIn E seqs n) s
+kept E fair seqs n m s h d = kept-from E seqs n (chainIn E seqs n) m s (chainIn E seqs n .ending) (kept-exactly E fair seqs n m s h d)
 
 -- ── the check as it is asked for
-pub fair-base : (lists : List ℕ) → Fair (envOf lists)
-fair-base lists = record { size = omega arith }
+pub fair-flight : Fair flight
+fair-flight = record { size = omega arith; last = omega arith }
 
-pub check-is : (seqs lists : List ℕ) (n : ℕ) → tablesWrong seqs lists ≡ false → n ≤ 127 → checkOf seqs lists n ≡ chainOf (envOf lists) seqs n
+pub check-is : (F : Format) (seqs lists : List ℕ) (n : ℕ) → tablesWrong seqs lists ≡ false → n ≤ F .last → checkOf F seqs lists n ≡ chainIn (envOf F lists) seqs n
 unfolding checkOf checkRows
-check-is seqs lists n t h = rw (t, le-ltb 127 n h)
+check-is F seqs lists n t h = rw (t, le-ltb (F .last) n h)

@@ -10,13 +10,13 @@ use Rattle.survey.specs.declared.Item.{Item}
 use Rattle.survey.specs.declared.Closing.{Closing}
 use Rattle.survey.specs.declared.Closing.the-variants.{Terminates, CallsOn}
 use Rattle.survey.specs.declared.Ending.the-variants.{Returns}
-use Rattle.survey.specs.Walk.{passes, checkOne}
+use Rattle.survey.specs.Walk.{passes, checkOne, findingOf}
 use Rattle.survey.specs.Chain.{Told, told, onward, follow, chainOf}
-use Rattle.promises.specs.Range.{Fair}
 use Rattle.promises.specs.Kept.{IsPassed}
+use Rattle.promises.proofs.Chain.Chains.{chainIn}
 use Rattle.promises.proofs.Chain.Never.{Leads, Fine, listed-fine}
 
-module _ (E : Env) (fair : Fair E) (seqs : List ℕ) where
+module _ (E : Env) (seqs : List ℕ) where
   onward-passes : (P : ℕ → Type 0) (n : ℕ) (go : ℕ → Told) → ((u : ℕ) → P u → IsPassed (go u .ending)) → (k x e : ℕ) (items : List Item) (closing : Closing) → Leads P closing
       → IsPassed (onward go n (passes k x items e closing) .ending)
   unfolding onward
@@ -24,18 +24,18 @@ module _ (E : Env) (fair : Fair E) (seqs : List ℕ) where
   onward-passes P n go ih k x e items (CallsOn u) w = ih u w
 
   -- sequences that the check passes one by one, and whose calls stay among them, make chains that pass
-  fine-passes : (P : ℕ → Type 0) → ((n : ℕ) → P n → Fine E seqs P n) → (f : ℕ) (before : List ℕ) (n : ℕ) → P n → IsPassed (follow E seqs f before n .ending)
+  fine-passes : (P : ℕ → Type 0) → ((n : ℕ) → P n → Fine E seqs P n) → (f : ℕ) (before : List ℕ) (n : ℕ) → P n → IsPassed (follow (findingOf E seqs) f before n .ending)
   unfolding follow
   fine-passes P fine zero before n p = tt
   fine-passes P fine (suc f) before n p = go (among n before) (λ u q. fine-passes P fine f (n ∷ before) u q)
     where
       after : ℕ → Told
-      after u = follow E seqs f (n ∷ before) u
+      after u = follow (findingOf E seqs) f (n ∷ before) u
 
       go : (b : Bool) → ((u : ℕ) → P u → IsPassed (after u .ending)) → IsPassed (cond b (told [] Returns 0 0) (onward after n (checkOne E (textOf E seqs n))) .ending)
       go true ih = tt
       go false ih = let g = fine n p in rw (g .says) (onward-passes P n after ih (g .k) (g .x) (g .e) (g .items) (g .closing) (g .leads))
 
-  pub listed-passes : (n : ℕ) → n ≤ E .last → IsPassed (chainOf E seqs n .ending) → (u : ℕ) → among u (chainOf E seqs n .names) ≡ true → IsPassed (chainOf E seqs u .ending)
+  pub listed-passes : (n : ℕ) → n ≤ E .format .last → IsPassed (chainIn E seqs n .ending) → (u : ℕ) → among u (chainIn E seqs n .names) ≡ true → IsPassed (chainIn E seqs u .ending)
   unfolding chainOf
-  listed-passes n h y u a = fine-passes (λ v. among v (chainOf E seqs n .names) ≡ true) (listed-fine E fair seqs n h y .0) (suc (E .last)) [] u a
+  listed-passes n h y u a = fine-passes (λ v. among v (chainIn E seqs n .names) ≡ true) (listed-fine E seqs n h y .0) (suc (E .format .last)) [] u a

@@ -8,12 +8,11 @@ use mathlib.Core.Bool.{Bool, true, false, cond, _||_}
 use mathlib.Core.List.{List, [], _∷_}
 use lib.Dec.{eqb}
 use borrow.Author.Tests.{eq-eqb, ne-eqb, eqb-true}
+use Rattle.octets.proofs.Bools.{choice}
 use Rattle.sequence.specs.Starts.{among}
-use Rattle.sequence.specs.Env.{Env, textOf}
 use Rattle.survey.specs.declared.Ending.the-variants.{Returns}
-use Rattle.survey.specs.Walk.{checkOne}
+use Rattle.survey.specs.Walk.{Finding}
 use Rattle.survey.specs.Chain.{Told, told, onward, follow}
-use Rattle.survey.proofs.Names.{choice}
 
 -- how many numbers below k are not among these names
 unfoldable pub unlisted : ℕ → List ℕ → ℕ
@@ -65,10 +64,6 @@ or-move true true b e = refl
 or-move true false b e = refl
 or-move false a b e = e
 
-pub or-true : (a : Bool) → (a || true) ≡ true
-or-true true = refl
-or-true false = refl
-
 pub among-first : (n : ℕ) (names : List ℕ) → among n (n ∷ names) ≡ true
 unfolding among
 among-first n names = rw (eq-eqb n n refl)
@@ -82,10 +77,10 @@ among-case {A} u n names h f g = go (eqb n u) refl h
     go false e h = g h
 
 -- what holds where no more is listed, and of a sequence in front of what it holds of, holds of every chain
-pub follow-all : (E : Env) (seqs : List ℕ) (P : List ℕ → Told → Type 0) → ((before : List ℕ) → P before (told [] Returns 0 0))
-    → ((before : List ℕ) (n : ℕ) (go : ℕ → Told) → among n before ≡ false → ((m : ℕ) → P (n ∷ before) (go m)) → P before (onward go n (checkOne E (textOf E seqs n))))
-    → (f : ℕ) (before : List ℕ) (n : ℕ) → P before (follow E seqs f before n)
+pub follow-all : (found : ℕ → Finding) (P : List ℕ → Told → Type 0) → ((before : List ℕ) → P before (told [] Returns 0 0))
+    → ((before : List ℕ) (n : ℕ) (go : ℕ → Told) → among n before ≡ false → ((m : ℕ) → P (n ∷ before) (go m)) → P before (onward go n (found n)))
+    → (f : ℕ) (before : List ℕ) (n : ℕ) → P before (follow found f before n)
 unfolding follow
-follow-all E seqs P none front zero before n = none before
-follow-all E seqs P none front (suc f) before n =
-    choice (P before) (among n before) _ _ (λ _. none before) (λ e. front before n (λ m. follow E seqs f (n ∷ before) m) e (λ m. follow-all E seqs P none front f (n ∷ before) m))
+follow-all found P none front zero before n = none before
+follow-all found P none front (suc f) before n =
+    choice (P before) (among n before) _ _ (λ _. none before) (λ e. front before n (λ m. follow found f (n ∷ before) m) e (λ m. follow-all found P none front f (n ∷ before) m))

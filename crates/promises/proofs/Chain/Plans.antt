@@ -4,7 +4,7 @@ use Prim.Native.Nat.{ℕ, zero, suc, _+_, _*_, _≤_, _<_}
 use native.Mathlib.Nat.{mul-comm}
 use native.Mathlib.Omega.{arith}
 use mathlib.Core.Path.{_≡_, refl, sym, ap, ap₂, _∙_}
-use mathlib.Core.Bool.{true}
+use mathlib.Core.Bool.{true, or-true}
 use mathlib.Core.List.{List, [], _∷_, _++_, append-assoc}
 use lib.Dec.{eqb}
 use lib.ListN.{length, getD, replicate, length-replicate}
@@ -13,7 +13,7 @@ use Rattle.octets.specs.Bytes.{byteAt}
 use Rattle.sequence.specs.declared.RasterWords.{RasterWords}
 use Rattle.sequence.specs.Starts.{among}
 use Rattle.sequence.specs.Raster.{rasterAt, startOf}
-use Rattle.sequence.specs.Env.{Env, envOf, textOf}
+use Rattle.sequence.specs.Env.{Env, textOf}
 use Rattle.runner.specs.declared.Event.{Event}
 use Rattle.runner.specs.declared.Event.the-variants.{Enter, Raster, Exp}
 use Rattle.survey.specs.declared.Item.{Item}
@@ -21,18 +21,18 @@ use Rattle.survey.specs.declared.Item.the-variants.{Pause, Scan}
 use Rattle.survey.specs.Turns.{turns}
 use Rattle.survey.specs.Items.{positionAt, positions}
 use Rattle.survey.specs.Walk.{Finding, passes, faults, checkOne}
-use Rattle.survey.specs.Chain.{chainOf}
 use Rattle.promises.specs.Runs.{positionShown}
 use Rattle.promises.specs.Kept.{IsPassed}
-use Rattle.promises.specs.Demand3.{repeatPlan, rastersPlan, roundPlan, sequencePlan, chainPlan, each, landmark, exposedAt, RasterTakes}
+use Rattle.promises.specs.Demand3.{repeatPlan, rastersPlan, roundPlan, sequencePlan, chainPlan, fromEach, landmark, exposedPositions, RasterTakes}
 use Rattle.promises.proofs.Run.Turns.{length-turns}
 use Rattle.promises.proofs.Run.Sights.{passStart}
 use Rattle.promises.proofs.Run.Counts.{position}
-use Rattle.promises.proofs.Chain.Listing.{or-true, among-first}
-use Rattle.promises.proofs.Chain.Chains.{fair-base}
+use Rattle.promises.proofs.Chain.Listing.{among-first}
+use Rattle.promises.proofs.Chain.Chains.{chainIn}
 use Rattle.promises.proofs.Chain.Never.{Fine, listed-fine}
 use Rattle.promises.proofs.Run.Shown.{turns-same, Blind, shots, repeatShown, itemsShown}
-use Rattle.promises.proofs.Chain.ChainShown.{findingShown, chainShown, passed-body}
+use Rattle.promises.proofs.Chain.ChainShown.{findingShown, chainShown}
+use Rattle.promises.proofs.Text.Walks.{passed-read}
 use Rattle.promises.proofs.Text.TextOrder.{scansOf, rasters-of}
 
 pub blind-landmark : Blind landmark
@@ -82,25 +82,22 @@ items-planned text (Scan p t b before from ∷ items) =
 -- the check passes each of these sequences
 abbrev Passes : Finding → Type 0
 Passes (passes k x items e closing) = Unit {0}
-Passes (faults p code) = ⊥
+Passes (faults f) = ⊥
 
 abbrev AllPass : Env → List ℕ → List ℕ → Type 0
 AllPass E seqs [] = Unit {0}
 AllPass E seqs (n ∷ ns) = Passes (checkOne E (textOf E seqs n)) × AllPass E seqs ns
 
-module _ (lists seqs : List ℕ) where
-  abbrev E : Env
-  E = envOf lists
-
+module _ (E : Env) (seqs : List ℕ) where
   finding-planned : (n : ℕ) (v : Finding) → checkOne E (textOf E seqs n) ≡ v → Passes v → findingShown landmark n (textOf E seqs n) v ≡ sequencePlan n (textOf E seqs n)
   finding-planned n (passes k x items e closing) says y =
       let text = textOf E seqs n in
       let round : itemsShown landmark text items ≡ roundPlan text =
-      items-planned text items ∙ ap (rastersPlan text) (sym (rasters-of (passed-body E (fair-base lists) seqs n says))) in
+      items-planned text items ∙ ap (rastersPlan text) (sym (rasters-of (passed-read E text says .0))) in
       ap (λ (es : List Event). Enter n ∷ es) (turns-same (λ r l. itemsShown landmark text items) (λ r l. roundPlan text) (λ r l. round) 0 (byteAt text 3))
-  finding-planned n (faults p code) says y = absurd y
+  finding-planned n (faults f) says y = absurd y
 
-  chain-planned : (names : List ℕ) → AllPass E seqs names → chainShown landmark E seqs names ≡ chainPlan seqs names
+  chain-planned : (names : List ℕ) → AllPass E seqs names → chainShown landmark E seqs names ≡ chainPlan (E .format) seqs names
   chain-planned [] y = refl
   chain-planned (n ∷ ns) (y, ys) = ap₂ (_++_) (finding-planned n (checkOne E (textOf E seqs n)) refl y) (chain-planned ns ys)
 
@@ -109,29 +106,29 @@ module _ (lists seqs : List ℕ) where
   fine-pass P [] fine = tt
   fine-pass P (n ∷ ns) fine = (rw (fine n (among-first n ns) .says) tt, fine-pass P ns (λ u a. fine u (rw a (or-true (eqb n u)))))
 
-  pub passed-planned : (n : ℕ) → n ≤ 127 → IsPassed (chainOf E seqs n .ending) → chainShown landmark E seqs (chainOf E seqs n .names) ≡ chainPlan seqs (chainOf E seqs n .names)
+  pub passed-planned : (n : ℕ) → n ≤ E .format .last → IsPassed (chainIn E seqs n .ending) → chainShown landmark E seqs (chainIn E seqs n .names) ≡ chainPlan (E .format) seqs (chainIn E seqs n .names)
   passed-planned n h y =
-      let names = chainOf E seqs n .names in
-      chain-planned names (fine-pass (λ v. among v names ≡ true) names (listed-fine E (fair-base lists) seqs n h y .0))
+      let names = chainIn E seqs n .names in
+      chain-planned names (fine-pass (λ v. among v names ≡ true) names (listed-fine E seqs n h y .0))
 
 -- ── how many exposures a raster takes
-pub each-append : {A : Type 0} (f : Event → List A) (xs ys : List Event) → each f (xs ++ ys) ≡ each f xs ++ each f ys
+pub each-append : {A : Type 0} (f : Event → List A) (xs ys : List Event) → fromEach f (xs ++ ys) ≡ fromEach f xs ++ fromEach f ys
 each-append f [] ys = refl
-each-append f (x ∷ xs) ys = ap (λ zs. f x ++ zs) (each-append f xs ys) ∙ sym (append-assoc (f x) (each f xs) (each f ys))
+each-append f (x ∷ xs) ys = ap (λ zs. f x ++ zs) (each-append f xs ys) ∙ sym (append-assoc (f x) (fromEach f xs) (fromEach f ys))
 
-pub each-turns : {A : Type 0} (f : Event → List A) (g : ℕ → ℕ → List Event) (k n : ℕ) → each f (turns k n g) ≡ turns k n (λ j l. each f (g j l))
+pub each-turns : {A : Type 0} (f : Event → List A) (g : ℕ → ℕ → List Event) (k n : ℕ) → fromEach f (turns k n g) ≡ turns k n (λ j l. fromEach f (g j l))
 each-turns f g k zero = refl
-each-turns f g k (suc n) = each-append f (g k n) (turns (suc k) n g) ∙ ap (λ zs. each f (g k n) ++ zs) (each-turns f g (suc k) n)
+each-turns f g k (suc n) = each-append f (g k n) (turns (suc k) n g) ∙ ap (λ zs. fromEach f (g k n) ++ zs) (each-turns f g (suc k) n)
 
-repeat-takes : (raster : RasterWords) (turn : ℕ) → length (exposedAt (repeatPlan raster turn)) ≡ raster .loops * raster .exposures
+repeat-takes : (raster : RasterWords) (turn : ℕ) → length (exposedPositions (repeatPlan raster turn)) ≡ raster .loops * raster .exposures
 repeat-takes raster turn =
     let shot : ℕ → ℕ → List Event = λ k l. Exp (positionAt raster turn k) ∷ [] in
     let many = raster .loops * raster .exposures in
     let e : many * 1 ≡ many = omega arith in
-    ap length (each-turns positionShown shot 0 many) ∙ length-turns 1 (λ k l. exposedAt (shot k l)) (λ k l. refl) 0 many ∙ e
+    ap length (each-turns positionShown shot 0 many) ∙ length-turns 1 (λ k l. exposedPositions (shot k l)) (λ k l. refl) 0 many ∙ e
 
 pub raster-takes : RasterTakes
 raster-takes raster =
     ap length (each-turns positionShown (λ turn l. repeatPlan raster turn) 0 (raster .repeats))
-    ∙ length-turns (raster .loops * raster .exposures) (λ turn l. exposedAt (repeatPlan raster turn)) (λ turn l. repeat-takes raster turn) 0 (raster .repeats)
+    ∙ length-turns (raster .loops * raster .exposures) (λ turn l. exposedPositions (repeatPlan raster turn)) (λ turn l. repeat-takes raster turn) 0 (raster .repeats)
     ∙ mul-comm (raster .repeats) (raster .loops * raster .exposures)

@@ -1,20 +1,21 @@
 -- The tables decide a chain: its names, and whether it ends or returns. So a chain that returns lists what comes again as its last part.
 -- Assumes nothing.
-use Prim.Native.Nat.{ℕ}
+use Prim.Native.Nat.{ℕ, suc}
 use native.Mathlib.Omega.{arith}
 use mathlib.Core.Path.{_≡_, refl, sym, ap, subst, subst₂, _∙_}
-use mathlib.Core.Bool.{true, true≢false, false≢true}
+use mathlib.Core.Bool.{true, true≢false, false≢true, or-true}
 use mathlib.Core.List.{List, [], _∷_, _++_, append-assoc}
 use lib.Dec.{eqb}
 use lib.ListN.{length, length-append}
+use Rattle.memory.specs.declared.Format.{Format}
 use Rattle.sequence.specs.Starts.{among}
 use Rattle.sequence.specs.declared.Command.{Command}
 use Rattle.sequence.specs.declared.Command.the-variants.{CallSequence, Terminate}
 use Rattle.survey.specs.declared.Ending.{Ending}
-use Rattle.survey.specs.declared.Ending.the-variants.{Unlisted, Finishes, Returns, Faulty}
+use Rattle.survey.specs.declared.Ending.the-variants.{Unlisted, Finishes, Returns, Faults}
 use Rattle.promises.specs.Kept.{IsPassed}
 use Rattle.promises.specs.Demand3.{lastOf, Calling, Chain, last-terminates, last-returns, last-faulty, then-called, Differ}
-use Rattle.promises.proofs.Chain.Listing.{or-true, among-first, among-case}
+use Rattle.promises.proofs.Chain.Listing.{among-first, among-case}
 
 -- ── names that differ
 differ-part : (xs ys : List ℕ) → Differ (xs ++ ys) → Differ ys
@@ -57,121 +58,99 @@ call-same e w = cc
 pub no-call : {m : ℕ} {c : Command} → c ≡ Terminate → c ≡ CallSequence m → ⊥
 no-call e w = let z : _≡_ {A = ℕ} 0 1 = cc in omega arith
 
--- both pass, or both have their fault in one sequence
-abbrev pub Alike : Ending → Ending → Type 0
-Alike (Unlisted code) e = ⊥
-Alike Finishes e = IsPassed e
-Alike Returns e = IsPassed e
-Alike (Faulty code n place) (Unlisted code′) = ⊥
-Alike (Faulty code n place) Finishes = ⊥
-Alike (Faulty code n place) Returns = ⊥
-Alike (Faulty code n place) (Faulty code′ n′ place′) = n ≡ n′
+-- where a chain has its fault: one more than the sequence's number, 0 for none
+abbrev pub faultAt : Ending → ℕ
+faultAt (Unlisted code) = 0
+faultAt Finishes = 0
+faultAt Returns = 0
+faultAt (Faults n f) = suc n
 
-pub alike-sym : (e e′ : Ending) → Alike e e′ → Alike e′ e
-alike-sym Finishes Finishes y = tt
-alike-sym Finishes Returns y = tt
-alike-sym Returns Finishes y = tt
-alike-sym Returns Returns y = tt
-alike-sym (Faulty c n p) (Faulty c′ n′ p′) y = sym y
-alike-sym (Unlisted c) e y = absurd y
-alike-sym Finishes (Unlisted c) y = absurd y
-alike-sym Finishes (Faulty c n p) y = absurd y
-alike-sym Returns (Unlisted c) y = absurd y
-alike-sym Returns (Faulty c n p) y = absurd y
-alike-sym (Faulty c n p) (Unlisted c′) y = absurd y
-alike-sym (Faulty c n p) Finishes y = absurd y
-alike-sym (Faulty c n p) Returns y = absurd y
+pub passed-none : (e : Ending) → IsPassed e → faultAt e ≡ 0
+passed-none (Unlisted code) y = refl
+passed-none Finishes y = refl
+passed-none Returns y = refl
+passed-none (Faults n f) y = absurd y
 
-module _ (seqs : List ℕ) where
-  pub chain-first : {listed names : List ℕ} {n : ℕ} {e : Ending} → Chain seqs listed n names e → (rest : List ℕ) × (names ≡ n ∷ rest)
+module _ (F : Format) (seqs : List ℕ) where
+  pub chain-first : {listed names : List ℕ} {n : ℕ} {e : Ending} → Chain F seqs listed n names e → (rest : List ℕ) × (names ≡ n ∷ rest)
   chain-first (last-terminates a) = ([], refl)
   chain-first (last-returns a b) = ([], refl)
   chain-first last-faulty = ([], refl)
   chain-first (then-called {names} a c) = (names, refl)
 
   -- no chain refuses to answer
-  pub no-answer : {listed names : List ℕ} {n code : ℕ} → Chain seqs listed n names (Unlisted code) → ⊥
+  pub no-answer : {listed names : List ℕ} {n code : ℕ} → Chain F seqs listed n names (Unlisted code) → ⊥
   no-answer (then-called a c) = no-answer c
 
-  fault-among : {listed names : List ℕ} {n code q place : ℕ} → Chain seqs listed n names (Faulty code q place) → among q names ≡ true
+  fault-among : {listed names : List ℕ} {n q : ℕ} {e : Ending} → Chain F seqs listed n names e → faultAt e ≡ suc q → among q names ≡ true
   unfolding among
-  fault-among (last-faulty {n}) = among-first n []
-  fault-among {q} (then-called {n} a c) = rw (fault-among c) (or-true (eqb n q))
+  fault-among (last-terminates a) y = absurd (omega arith)
+  fault-among (last-returns a l) y = absurd (omega arith)
+  fault-among {q} (last-faulty {n}) y = let w : n ≡ q = omega arith in rw (← w) (among-first n [])
+  fault-among {q} (then-called {n} a c) y = rw (fault-among c y) (or-true (eqb n q))
 
   -- what comes after n differs from n and from all before it
   pub returns-short : (before rest : List ℕ) (n m : ℕ) {listed′ : List ℕ} {e : Ending} → among m (before ++ (n ∷ [])) ≡ true
-      → Chain seqs listed′ m rest e → Differ (before ++ (n ∷ rest)) → ⊥
+      → Chain F seqs listed′ m rest e → Differ (before ++ (n ∷ rest)) → ⊥
   returns-short before rest n m a c d =
       let (more, e) = chain-first c in
       let whole : before ++ (n ∷ rest) ≡ (before ++ (n ∷ [])) ++ (m ∷ more) = ap (λ (ns : List ℕ). before ++ (n ∷ ns)) e ∙ sym (append-assoc before (n ∷ []) (m ∷ more)) in
       not-again m (before ++ (n ∷ [])) more (subst Differ whole d) a
 
-  fault-short : (before rest : List ℕ) (code n place : ℕ) {m : ℕ} {listed′ : List ℕ} (e : Ending) → Chain seqs listed′ m rest e → Alike (Faulty code n place) e
-      → Differ (before ++ (n ∷ rest)) → ⊥
-  fault-short before rest code n place (Unlisted c) l y d = y
-  fault-short before rest code n place Finishes l y d = y
-  fault-short before rest code n place Returns l y d = y
-  fault-short before rest code n place (Faulty c q p) l y d = true≢false (subst (λ (x : ℕ). true ≡ among x rest) (sym y) (sym (fault-among l)) ∙ differ-part before (n ∷ rest) d .0)
+  fault-short : (before rest : List ℕ) (n : ℕ) {m : ℕ} {listed′ : List ℕ} {e : Ending} → Chain F seqs listed′ m rest e → faultAt e ≡ suc n → Differ (before ++ (n ∷ rest)) → ⊥
+  fault-short before rest n l y d = true≢false (sym (fault-among l y) ∙ differ-part before (n ∷ rest) d .0)
 
-  pub same-names : (before : List ℕ) {listed listed′ xs ys : List ℕ} {n : ℕ} {e e′ : Ending} → Chain seqs listed n xs e → Chain seqs listed′ n ys e′
-      → listed ≡ before ++ xs → listed′ ≡ before ++ ys → Differ listed → Differ listed′ → Alike e e′ → (xs ≡ ys) × (IsPassed e → e ≡ e′)
+  pub same-names : (before : List ℕ) {listed listed′ xs ys : List ℕ} {n : ℕ} {e e′ : Ending} → Chain F seqs listed n xs e → Chain F seqs listed′ n ys e′
+      → listed ≡ before ++ xs → listed′ ≡ before ++ ys → Differ listed → Differ listed′ → faultAt e ≡ faultAt e′ → (xs ≡ ys) × (IsPassed e → e ≡ e′)
   same-names before (last-terminates a) (last-terminates b) h h′ d d′ y = (refl, λ p. refl)
   same-names before (last-terminates a) (last-returns b l) h h′ d d′ y = absurd (no-call a b)
-  same-names before (last-terminates a) last-faulty h h′ d d′ y = absurd y
+  same-names before (last-terminates a) last-faulty h h′ d d′ y = absurd (omega arith)
   same-names before (last-terminates a) (then-called b c) h h′ d d′ y = absurd (no-call a b)
   same-names before (last-returns a l) (last-terminates b) h h′ d d′ y = absurd (no-call b a)
   same-names before (last-returns a l) (last-returns b k) h h′ d d′ y = (refl, λ p. refl)
-  same-names before (last-returns a l) last-faulty h h′ d d′ y = absurd y
+  same-names before (last-returns a l) last-faulty h h′ d d′ y = absurd (omega arith)
   same-names before (last-returns a l) (then-called {n} {m} {names} b c) h h′ d d′ y =
       absurd (returns-short before names n m (subst₂ (λ (x : ℕ) (ns : List ℕ). among x ns ≡ true) (call-same a b) h l) c (subst Differ h′ d′))
-  same-names before last-faulty (last-terminates b) h h′ d d′ y = absurd y
-  same-names before last-faulty (last-returns b k) h h′ d d′ y = absurd y
+  same-names before last-faulty (last-terminates b) h h′ d d′ y = absurd (omega arith)
+  same-names before last-faulty (last-returns b k) h h′ d d′ y = absurd (omega arith)
   same-names before last-faulty last-faulty h h′ d d′ y = (refl, λ p. absurd p)
-  same-names before (last-faulty {n} {code} {place}) (then-called {names} {ending} b c) h h′ d d′ y =
-      absurd (fault-short before names code n place ending c y (subst Differ h′ d′))
+  same-names before (last-faulty {n}) (then-called {names} b c) h h′ d d′ y = absurd (fault-short before names n c (sym y) (subst Differ h′ d′))
   same-names before (then-called a c) (last-terminates b) h h′ d d′ y = absurd (no-call b a)
   same-names before (then-called {n} {m} {names} a c) (last-returns b k) h h′ d d′ y =
       absurd (returns-short before names n m (subst₂ (λ (x : ℕ) (ns : List ℕ). among x ns ≡ true) (call-same b a) h′ k) c (subst Differ h d))
-  same-names before (then-called {names} {ending} a c) (last-faulty {n} {code} {place}) h h′ d d′ y =
-      absurd (fault-short before names code n place ending c (alike-sym ending (Faulty code n place) y) (subst Differ h d))
+  same-names before (then-called {names} a c) (last-faulty {n}) h h′ d d′ y = absurd (fault-short before names n c y (subst Differ h d))
   same-names before {listed′} (then-called {n} {names} a c) (then-called {names = names′} {ending = ending′} b c′) h h′ d d′ y =
       let on : (ns : List ℕ) → before ++ (n ∷ ns) ≡ (before ++ (n ∷ [])) ++ ns = λ ns. sym (append-assoc before (n ∷ []) ns) in
-      let (same, ends) = same-names (before ++ (n ∷ [])) c (subst (λ (x : ℕ). Chain seqs listed′ x names′ ending′) (call-same b a) c′) (h ∙ on names) (h′ ∙ on names′) d d′ y in
+      let (same, ends) = same-names (before ++ (n ∷ [])) c (subst (λ (x : ℕ). Chain F seqs listed′ x names′ ending′) (call-same b a) c′) (h ∙ on names) (h′ ∙ on names′) d d′ y in
       (ap (λ (ns : List ℕ). n ∷ ns) same, ends)
 
   -- ── a chain that returns
   -- the last one calls a listed one
-  pub chain-back : (d : ℕ) {listed names : List ℕ} {n : ℕ} → Chain seqs listed n names Returns → (m : ℕ) × Calling seqs (lastOf d names) m × (among m listed ≡ true)
+  pub chain-back : (d : ℕ) {listed names : List ℕ} {n : ℕ} → Chain F seqs listed n names Returns → (m : ℕ) × Calling F seqs (lastOf d names) m × (among m listed ≡ true)
   chain-back d (last-returns {m} a l) = (m, a, l)
   chain-back d (then-called {n} a c) = chain-back n c
 
-  part-from : (once again : List ℕ) (m : ℕ) {listed names : List ℕ} {n : ℕ} {e : Ending} → Chain seqs listed n names e → names ≡ once ++ (m ∷ again) → Chain seqs listed m (m ∷ again) e
+  part-from : (once again : List ℕ) (m : ℕ) {listed names : List ℕ} {n : ℕ} {e : Ending} → Chain F seqs listed n names e → names ≡ once ++ (m ∷ again) → Chain F seqs listed m (m ∷ again) e
   part-from [] again m {listed} {e = ending} c e =
       let (rest, f) = chain-first c in
-      subst₂ (λ (x : ℕ) (ns : List ℕ). Chain seqs listed x ns ending) (cc (sym f ∙ e)) e c
+      subst₂ (λ (x : ℕ) (ns : List ℕ). Chain F seqs listed x ns ending) (cc (sym f ∙ e)) e c
   part-from (x ∷ once) again m (last-terminates a) e = absurd (not-none once again m x e)
   part-from (x ∷ once) again m (last-returns a l) e = absurd (not-none once again m x e)
   part-from (x ∷ once) again m last-faulty e = absurd (not-none once again m x e)
   part-from (x ∷ once) again m (then-called {n} {names} a c) e = part-from once again m c (cc)
 
   -- what it calls at last is among others
-  relisted : (d : ℕ) {listed listed′ names : List ℕ} {n m : ℕ} → Chain seqs listed n names Returns → Calling seqs (lastOf d names) m → among m listed′ ≡ true
-      → Chain seqs listed′ n names Returns
+  relisted : (d : ℕ) {listed listed′ names : List ℕ} {n m : ℕ} → Chain F seqs listed n names Returns → Calling F seqs (lastOf d names) m → among m listed′ ≡ true
+      → Chain F seqs listed′ n names Returns
   relisted d (last-returns a l) b k = last-returns b k
   relisted d (then-called {n} a c) b k = then-called a (relisted n c b k)
 
   -- so the part from there on is what a chain from there lists, and that returns too
-  pub comes-again : (n m : ℕ) (names part : List ℕ) (e : Ending) → Chain seqs names n names Returns → Differ names → Calling seqs (lastOf 0 names) m → among m names ≡ true
-      → Chain seqs part m part e → Differ part → IsPassed e → (once : List ℕ) × (names ≡ once ++ part) × (e ≡ Returns)
+  pub comes-again : (n m : ℕ) (names part : List ℕ) (e : Ending) → Chain F seqs names n names Returns → Differ names → Calling F seqs (lastOf 0 names) m → among m names ≡ true
+      → Chain F seqs part m part e → Differ part → IsPassed e → (once : List ℕ) × (names ≡ once ++ part) × (e ≡ Returns)
   comes-again n m names part e c d b l c′ d′ y =
       let (once, again, whole) = split-at m names l in
       let from = part-from once again m c whole in
-      let call = subst (λ (x : ℕ). Calling seqs x m) (ap (lastOf 0) whole ∙ last-part 0 0 once again m) b in
-      let (same, ends) = same-names [] c′ (relisted 0 from call (among-first m again)) refl refl d′ (differ-part once (m ∷ again) (subst Differ whole d)) (passes-alike e y) in
+      let call = subst (λ (x : ℕ). Calling F seqs x m) (ap (lastOf 0) whole ∙ last-part 0 0 once again m) b in
+      let (same, ends) = same-names [] c′ (relisted 0 from call (among-first m again)) refl refl d′ (differ-part once (m ∷ again) (subst Differ whole d)) (passed-none e y) in
       (once, whole ∙ ap (λ (ns : List ℕ). once ++ ns) (sym same), ends y)
-    where
-      passes-alike : (e : Ending) → IsPassed e → Alike e Returns
-      passes-alike (Unlisted c) y = y
-      passes-alike Finishes y = tt
-      passes-alike Returns y = tt
-      passes-alike (Faulty c n p) y = y

@@ -7,9 +7,11 @@ use mathlib.Core.Bool.{Bool, true, false, cond, true≢false}
 use mathlib.Core.List.{List, [], _∷_, _++_}
 use lib.Dec.{ltb}
 use Rattle.octets.specs.Bytes.{byteAt}
+use Rattle.octets.proofs.Bools.{choice}
+use Rattle.sequence.specs.declared.Fault.{Fault}
 use Rattle.sequence.specs.declared.Header.{Header}
-use Rattle.sequence.specs.declared.Header.the-variants.{Repeats, Fault}
-use Rattle.sequence.specs.Text.{headerOf}
+use Rattle.sequence.specs.declared.Header.the-variants.{Repeats, Bad}
+use Rattle.sequence.specs.Text.{fault, headerOf}
 use Rattle.sequence.specs.Raster.{rasterAt}
 use Rattle.sequence.specs.Env.{Env, textOf}
 use Rattle.runner.specs.declared.Runner.{Runner}
@@ -25,12 +27,10 @@ use Rattle.survey.specs.declared.Item.the-variants.{Pause, Scan}
 use Rattle.survey.specs.Turns.{turns}
 use Rattle.survey.specs.Items.{positions}
 use Rattle.survey.specs.Walk.{Finding, passes, faults, checkOne}
-use Rattle.promises.specs.Range.{Fair}
 use Rattle.promises.specs.Runs.{isA, quiet, Run, done, more}
 use Rattle.promises.proofs.Chain.Chains.{chainSights}
 use Rattle.promises.proofs.Run.Shown.{shown, shots, repeatShown, itemsShown}
 use Rattle.promises.proofs.Chain.ChainShown.{findingShown, chainShown, chain-shown}
-use Rattle.promises.proofs.Range.Units.{either}
 use Rattle.promises.proofs.Range.Steady.{still-running}
 
 -- ── one step
@@ -46,34 +46,34 @@ calm : {A : Type 0} → true ≡ false → A
 calm h = absurd (true≢false h)
 
 module _ (E : Env) (text : List ℕ) (s : Runner) where
-  aborted-fate : (code place : ℕ) → Fate (aborted code place s)
+  aborted-fate : (f : Fault) → Fate (aborted f s)
   unfolding aborted
-  aborted-fate code place = (refl, λ h. refl)
+  aborted-fate f = (refl, λ h. refl)
 
   entered-fate : (h : Header) → Fate (enteredBy s h)
   entered-fate (Repeats n) = (refl, calm)
-  entered-fate (Fault code place) = aborted-fate code place
+  entered-fate (Bad f) = aborted-fate f
 
-  act-fate : (a : Act) → Fate (act (E .last) text s a)
+  act-fate : (a : Act) → Fate (act (E .format) text s a)
   unfolding act begun exposed looped delayed called ended
-  act-fate (Refused code) = aborted-fate code (s .place)
+  act-fate (Refused code) = aborted-fate (fault code (s .place))
   act-fate Opens = (refl, calm)
   act-fate (Exposes r) =
-      either Fate (advances (rasterAt text (r .0)) s)
-      (λ h. either Fate (ltb 2400 (s .mirror + rasterAt text (r .0) .step)) (λ l. aborted-fate 14 (s .place)) (λ l. (refl, calm)))
+      choice Fate (advances (rasterAt text (r .0)) s) _ _
+      (λ h. choice Fate (ltb 2400 (s .mirror + rasterAt text (r .0) .step)) _ _ (λ l. aborted-fate (fault 14 (s .place))) (λ l. (refl, calm)))
       (λ h. (refl, calm))
-  act-fate (Loops t) = either Fate (ltb 1 (s .passes)) (λ h. (refl, calm)) (λ h. either Fate (ltb 1 (s .repeats)) (λ l. (refl, calm)) (λ l. (refl, calm)))
+  act-fate (Loops t) = choice Fate (ltb 1 (s .raster .passes)) _ _ (λ h. (refl, calm)) (λ h. choice Fate (ltb 1 (s .raster .repeats)) _ _ (λ l. (refl, calm)) (λ l. (refl, calm)))
   act-fate Waits = (refl, calm)
   act-fate (Calls n) =
-      either Fate (ltb 1 (s .rounds)) (λ h. (refl, calm)) (λ h. either Fate (ltb (E .last) n) (λ l. aborted-fate 4 (s .place)) (λ l. (refl, calm)))
-  act-fate Ends = either Fate (ltb 1 (s .rounds)) (λ h. (refl, calm)) (λ h. (refl, calm))
+      choice Fate (ltb 1 (s .rounds)) _ _ (λ h. (refl, calm)) (λ h. choice Fate (ltb (E .format .last) n) _ _ (λ l. aborted-fate (fault 4 (s .place))) (λ l. (refl, calm)))
+  act-fate Ends = choice Fate (ltb 1 (s .rounds)) _ _ (λ h. (refl, calm)) (λ h. (refl, calm))
 
 pub step-fate : (E : Env) (seqs : List ℕ) (s : Runner) → s .running ≡ true → Fate (stepOf E seqs s)
 unfolding stepOf stepIn entered
 step-fate E seqs s r =
     let text = textOf E seqs (s .sequence) in
-    either Fate (s .running)
-    (λ h. either Fate (s .entering) (λ e. entered-fate E text s (headerOf text)) (λ e. act-fate E text s (judge E text (s .place) (openOf s))))
+    choice Fate (s .running) _ _
+    (λ h. choice Fate (s .entering) _ _ (λ e. entered-fate E text s (headerOf text)) (λ e. act-fate E text s (judge (E .cards) text (s .place) (openOf (E .format) s))))
     (λ h. absurd (true≢false (sym r ∙ h)))
 
 -- ── a run
@@ -111,7 +111,7 @@ items-busy text (Scan p t b before from ∷ items) =
 
 finding-busy : (n : ℕ) (text : List ℕ) (v : Finding) → findingShown idleness n text v ≡ []
 finding-busy n text (passes k x items e closing) = nothing-turns (λ r l. itemsShown idleness text items) (λ r l. items-busy text items) 0 (byteAt text 3)
-finding-busy n text (faults p code) = refl
+finding-busy n text (faults f) = refl
 
 names-busy : (E : Env) (seqs names : List ℕ) → chainShown idleness E seqs names ≡ []
 names-busy E seqs [] = refl
@@ -125,7 +125,7 @@ busy-by (w ∷ ws) h = go (isIdle (w .event)) (busy-by ws) h
     go true ih h = let z : _≡_ {A = ℕ} 0 1 = cc in absurd (omega arith)
     go false ih h = (refl, ih h)
 
-pub chain-busy : (E : Env) → Fair E → (seqs names : List ℕ) (m : ℕ) → AllBusy (chainSights E seqs names m)
-chain-busy E fair seqs names m =
+pub chain-busy : (E : Env) (seqs names : List ℕ) (m : ℕ) → AllBusy (chainSights E seqs names m)
+chain-busy E seqs names m =
     busy-by (chainSights E seqs names m)
-    (chain-shown idleness (record { wait = λ t. refl; loop = λ p. refl; next = refl; done = refl; call = λ n. refl; end = refl }) E fair seqs names m ∙ names-busy E seqs names)
+    (chain-shown idleness (record { wait = λ t. refl; loop = λ p. refl; next = refl; done = refl; call = λ n. refl; end = refl }) E seqs names m ∙ names-busy E seqs names)

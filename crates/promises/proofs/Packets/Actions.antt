@@ -4,6 +4,7 @@ use native.Mathlib.Omega.{arith}
 use mathlib.Core.Path.{_≡_, refl, ap}
 use mathlib.Core.List.{List, [], _∷_, _++_}
 use lib.ListN.{length}
+use Rattle.memory.specs.declared.Format.{Format}
 use Rattle.runner.specs.declared.Event.{Event}
 use Rattle.unit.specs.declared.Outcome.{Outcome}
 use Rattle.unit.specs.declared.Outcome.the-variants.{Denied, Saw}
@@ -56,36 +57,36 @@ pub all-append : (P : Outcome → Type 0) (xs ys : List Outcome) → All P xs �
 all-append P [] ys a b = b
 all-append P (x ∷ xs) ys (a, rest) b = (a, all-append P xs ys rest b)
 
-module _ (L : Library) where
-  pub reached-all : (acts : List Action) {w : World} → Reached L w → Reached L (afterAll L acts w)
+module _ {F : Format} (L : Library) where
+  pub reached-all : (acts : List Action) {w : World F} → Reached L w → Reached L (afterAll L acts w)
   reached-all [] r = r
   reached-all (a ∷ acts) r = reached-all acts (acted a r)
 
   -- as much is seen as steps are taken
-  pub steps-taken : (acts : List Action) (w : World) → length (outcomes L acts w) ≡ stepsIn acts
+  pub steps-taken : (acts : List Action) (w : World F) → length (outcomes L acts w) ≡ stepsIn acts
   steps-taken [] w = refl
   steps-taken (step ∷ acts) w = ap suc (steps-taken acts (after L step w))
   steps-taken (packet out time bytes ∷ acts) w = steps-taken acts (after L (packet out time bytes) w)
 
-  pub steps-seen : (k : ℕ) (w : World) → length (outcomes L (steps k) w) ≡ k
+  pub steps-seen : (k : ℕ) (w : World F) → length (outcomes L (steps k) w) ≡ k
   steps-seen zero w = refl
   steps-seen (suc k) w = ap suc (steps-seen k (after L step w))
 
-  pub seen-append : (first rest : List Action) (w : World) → outcomes L (first ++ rest) w ≡ outcomes L first w ++ outcomes L rest (afterAll L first w)
+  pub seen-append : (first rest : List Action) (w : World F) → outcomes L (first ++ rest) w ≡ outcomes L first w ++ outcomes L rest (afterAll L first w)
   seen-append [] rest w = refl
-  seen-append (step ∷ first) rest w = ap (λ (os : List Outcome). L .steps (w .unit) (w .seqs) (w .lists) .outcome ∷ os) (seen-append first rest (after L step w))
+  seen-append (step ∷ first) rest w = ap (λ (os : List Outcome). L .steps F (w .unit) (w .seqs) (w .lists) .outcome ∷ os) (seen-append first rest (after L step w))
   seen-append (packet out time bytes ∷ first) rest w = seen-append first rest (after L (packet out time bytes) w)
 
   -- no call back is among them all exactly when none is among the first and none among the rest
-  pub never-parts : (first rest : List Action) (w : World) → NeverCalledBack L (first ++ rest) w → NeverCalledBack L first w × NeverCalledBack L rest (afterAll L first w)
+  pub never-parts : (first rest : List Action) (w : World F) → NeverCalledBack L (first ++ rest) w → NeverCalledBack L first w × NeverCalledBack L rest (afterAll L first w)
   never-parts [] rest w x = (tt, x)
   never-parts (a ∷ first) rest w (x, xs) = let (y, z) = never-parts first rest (after L a w) xs in ((x, y), z)
 
-  pub never-append : (first rest : List Action) (w : World) → NeverCalledBack L first w → NeverCalledBack L rest (afterAll L first w) → NeverCalledBack L (first ++ rest) w
+  pub never-append : (first rest : List Action) (w : World F) → NeverCalledBack L first w → NeverCalledBack L rest (afterAll L first w) → NeverCalledBack L (first ++ rest) w
   never-append [] rest w x y = y
   never-append (a ∷ first) rest w (x, xs) y = (x, never-append first rest (after L a w) xs y)
 
   -- steps call nothing back
-  pub stepped-on : (k : ℕ) (w : World) → NeverCalledBack L (steps k) w
+  pub stepped-on : (k : ℕ) (w : World F) → NeverCalledBack L (steps k) w
   stepped-on zero w = tt
   stepped-on (suc k) w = (λ z. z, stepped-on k (after L step w))

@@ -5,17 +5,18 @@ use mathlib.Core.Path.{_≡_, refl, sym, ap, subst, _∙_}
 use mathlib.Core.Bool.{Bool, true, false, cond}
 use mathlib.Core.List.{List}
 use lib.Dec.{leb, eqb}
-use borrow.Author.Tests.{eq-eqb, ne-eqb, eqb-true}
+use borrow.Author.Tests.{eq-eqb, ne-eqb}
 use Rattle.octets.specs.Bytes.{byteAt, halves}
-use Rattle.survey.proofs.Names.{choice}
+use Rattle.octets.proofs.Bools.{choice}
+use Rattle.memory.specs.declared.Format.{Format}
 use Rattle.unit.specs.declared.Unit.{Unit as ControlUnit}
 use Rattle.unit.specs.declared.Control.{Control}
-use Rattle.unit.specs.declared.Kind.{Kind}
-use Rattle.unit.specs.declared.Kind.the-variants.{Status, Dump, Allow, Mode, Clear, Select, Uplink, Foreign, Unheard}
-use Rattle.unit.specs.State.{withControl, received, withMode, started, stopped, moded, selected}
-use Rattle.unit.specs.Packet.{kindOf, codeOf}
+use Rattle.unit.specs.declared.Telecommand.{Telecommand}
+use Rattle.unit.specs.declared.Telecommand.the-variants.{Status, Dump, Allow, Mode, Clear, Select, Uplink, Foreign, Unheard}
+use Rattle.unit.specs.State.{withControl, withMode, started, stopped, moded, selected}
+use Rattle.unit.specs.Packet.{commandOf, telecommandOf, codeOf}
 use Rattle.unit.specs.Status.{running, statusOf}
-use Rattle.unit.specs.Answer.{logged, obeyedUnit, reply, obeyedSeqs, obeyedLists, refusedUnit, commandOf, unitAfter, answerOf}
+use Rattle.unit.specs.Answer.{withArrival, effect, obeyedUnit, reply, refusedUnit, unitAfter, answerOf}
 use Rattle.promises.specs.Library.{ours}
 use Rattle.promises.specs.Sent.{code, Logged}
 use Rattle.promises.specs.Demand2.{Asks, Effect01, StatusBlock, Allows, Effect20, StaysAllowed, Moded, Started, Stopped, RunKept, Effect21, Clears, Effect23, Selects, Effect83}
@@ -23,9 +24,9 @@ use Rattle.promises.proofs.Packets.Exactly.{step-keeps}
 use Rattle.promises.proofs.Packets.Leaves.{left, answered, silent, tables, becomes, logged-as}
 
 -- ── 01
-pub effect-01 : Effect01 ours
-unfolding kindOf obeyedUnit obeyedSeqs obeyedLists reply
-effect-01 s o =
+pub effect-01 : (F : Format) → Effect01 F ours
+unfolding telecommandOf effect obeyedUnit reply
+effect-01 F s o =
     let l = left Status 0x01 refl s o in (
       becomes l (Asks (s .unit)) (record { requests = refl; mode = refl; allowed = refl; selection = refl; ledger = refl; watch = refl; runner = refl }),
       tables l refl refl,
@@ -41,9 +42,9 @@ unfolding statusOf
 status-block u time = rw (running-byte (u .runner .running))
 
 -- ── 20, 23 and 83
-pub effect-20 : Effect20 ours
-unfolding kindOf obeyedUnit obeyedSeqs obeyedLists reply
-effect-20 s o =
+pub effect-20 : (F : Format) → Effect20 F ours
+unfolding telecommandOf effect obeyedUnit reply
+effect-20 F s o =
     let l = left Allow 0x20 refl s o in (
       becomes l (Allows (s .bytes) (s .unit))
           (record { allowed = refl; mode = refl; requests = refl; selection = refl; ledger = logged-as (s .bytes) (s .unit .ledger); watch = refl; runner = refl }),
@@ -51,9 +52,9 @@ effect-20 s o =
       silent l refl,
     )
 
-pub effect-23 : Effect23 ours
-unfolding kindOf obeyedUnit obeyedSeqs obeyedLists reply
-effect-23 s o =
+pub effect-23 : (F : Format) → Effect23 F ours
+unfolding telecommandOf effect obeyedUnit reply
+effect-23 F s o =
     let l = left Clear 0x23 refl s o in (
       becomes l (Clears (s .bytes) (s .unit))
           (record { code = refl; number = refl; abort = refl; received = refl; failed = refl; log = refl; exposures = refl; list = refl; control = refl; runner = refl }),
@@ -61,9 +62,9 @@ effect-23 s o =
       silent l refl,
     )
 
-pub effect-83 : Effect83 ours
-unfolding kindOf obeyedUnit obeyedSeqs obeyedLists reply selected
-effect-83 s o =
+pub effect-83 : (F : Format) → Effect83 F ours
+unfolding telecommandOf effect obeyedUnit reply selected
+effect-83 F s o =
     let l = left Select 0x83 refl s o in (
       becomes l (Selects (s .bytes) (s .unit))
           (record { selection = refl; runner = refl; mode = refl; allowed = refl; requests = refl; ledger = logged-as (s .bytes) (s .unit .ledger); watch = refl }),
@@ -79,38 +80,34 @@ module _ (p : List ℕ) (u : ControlUnit) where
   abbrev in-mode : ControlUnit → ControlUnit
   in-mode v = withControl (withMode m (u .control)) v
 
-  start-is : m ≡ 3 → moded m (logged p u) ≡ started (logged p u)
+  start-is : m ≡ 3 → moded m (withArrival p u) ≡ in-mode (started (withArrival p u))
   unfolding moded
   start-is e = simp (eq-eqb m 3 e)
 
-  stop-is : (m ≡ 3 → ⊥) → u .runner .running ≡ true → moded m (logged p u) ≡ in-mode (stopped (logged p u))
+  stop-is : (m ≡ 3 → ⊥) → u .runner .running ≡ true → moded m (withArrival p u) ≡ in-mode (stopped (withArrival p u))
   unfolding moded
   stop-is n e = simp (ne-eqb m 3 n, e)
 
-  keep-is : (m ≡ 3 → ⊥) → u .runner .running ≡ false → moded m (logged p u) ≡ in-mode (logged p u)
+  keep-is : (m ≡ 3 → ⊥) → u .runner .running ≡ false → moded m (withArrival p u) ≡ in-mode (withArrival p u)
   unfolding moded
   keep-is n e = simp (ne-eqb m 3 n, e)
 
-  moded-as : (v : ControlUnit) → v .control ≡ withMode m (u .control) → v .ledger ≡ received p (u .ledger) → Moded p u v
-  moded-as v e f =
-      record {
-        mode = ap (λ (c : Control). c .mode) e;
-        allowed = ap (λ (c : Control). c .allowed) e;
-        requests = ap (λ (c : Control). c .requests) e;
-        selection = ap (λ (c : Control). c .selection) e;
-        ledger = subst (Logged p (u .ledger)) (sym f) (logged-as p (u .ledger));
-      }
-
-  moded-all : Moded p u (moded m (logged p u))
+  moded-all : Moded p u (moded m (withArrival p u))
   unfolding moded
   moded-all =
-      choice (Moded p u) (eqb m 3) _ _
-      (λ e. moded-as (started (logged p u)) (ap (λ (x : ℕ). withMode x (u .control)) (sym (eqb-true m 3 e))) refl)
-      (λ _. choice (Moded p u) (u .runner .running) _ _ (λ _. moded-as (in-mode (stopped (logged p u))) refl refl) (λ _. moded-as (in-mode (logged p u)) refl refl))
+      let P : ControlUnit → Type 0 = λ v. Logged p (u .ledger) (v .ledger) in
+      let l = logged-as p (u .ledger) in
+      record {
+        mode = refl;
+        allowed = refl;
+        requests = refl;
+        selection = refl;
+        ledger = choice P (eqb m 3) _ _ (λ _. l) (λ _. choice P (u .runner .running) _ _ (λ _. l) (λ _. l));
+      }
 
-pub effect-21 : Effect21 ours
-unfolding kindOf obeyedUnit obeyedSeqs obeyedLists reply
-effect-21 s o =
+pub effect-21 : (F : Format) → Effect21 F ours
+unfolding telecommandOf effect obeyedUnit reply
+effect-21 F s o =
     let p = s .bytes in
     let u = s .unit in
     let l = left Mode 0x21 refl s o in (
@@ -139,8 +136,8 @@ effect-21 s o =
     )
 
 -- ── nothing takes a permission back
-obeyed-allowed : (k : Kind) (p : List ℕ) (u : ControlUnit) → u .control .allowed ≡ true → obeyedUnit k p u .control .allowed ≡ true
-unfolding obeyedUnit selected
+obeyed-allowed : (k : Telecommand) (p : List ℕ) (u : ControlUnit) → u .control .allowed ≡ true → obeyedUnit k p u .control .allowed ≡ true
+unfolding effect obeyedUnit selected
 obeyed-allowed Status p u e = e
 obeyed-allowed Dump p u e = e
 obeyed-allowed Allow p u e = refl
@@ -155,13 +152,13 @@ refused-allowed : (code : ℕ) (p : List ℕ) (u : ControlUnit) → u .control .
 unfolding refusedUnit
 refused-allowed code p u e = choice (λ (v : ControlUnit). v .control .allowed ≡ true) (leb 16 code) u _ (λ _. e) (λ _. e)
 
-pub stays-allowed : StaysAllowed ours
+pub stays-allowed : (F : Format) → StaysAllowed F ours
 unfolding answerOf unitAfter
-stays-allowed = (
+stays-allowed F = (
   λ s e.
-      let c = codeOf (s .unit) (s .seqs) (s .lists) (s .out) (s .bytes) in
+      let c = codeOf F (s .unit) (s .seqs) (s .lists) (s .out) (s .bytes) in
       choice (λ (v : ControlUnit). v .control .allowed ≡ true) (eqb c 0) _ _
       (λ _. obeyed-allowed (commandOf (s .bytes)) (s .bytes) (s .unit) e)
       (λ _. refused-allowed c (s .bytes) (s .unit) e),
-  λ u seqs lists e. ap (λ (x : Control). x .allowed) (step-keeps u seqs lists .1) ∙ e,
+  λ u seqs lists e. ap (λ (x : Control). x .allowed) (step-keeps F u seqs lists .1) ∙ e,
 )

@@ -10,24 +10,25 @@ use lib.Dec.{T, eqb}
 use borrow.Author.Tests.{eqb-true, ne-eqb}
 use Rattle.octets.specs.Rows.{Row, firstCode, NoneHolds, FirstBears, coded}
 use Rattle.octets.proofs.Laws.{none-holds, no-code, first-bears, bears-first, obeyed-exactly, code-exactly}
+use Rattle.memory.specs.declared.Format.{Format}
 use Rattle.memory.specs.declared.Range.{Range}
 use Rattle.memory.specs.declared.Range.the-variants.{Sequences, LineLists}
 use Rattle.memory.specs.Memory.{tablesWrong, rangeAt, partOf, windowRows, windowCode, windowPart}
 use Rattle.memory.proofs.Laws.{sizes, right-sizes, shown, hidden}
-use Rattle.sequence.specs.Env.{Env, envOf, textOf}
+use Rattle.sequence.specs.Env.{envOf}
 use Rattle.runner.specs.declared.Event.{Event}
 use Rattle.runner.specs.declared.Stepped.{Stepped}
 use Rattle.runner.specs.Step.{stepOf}
 use Rattle.survey.specs.declared.Closing.the-variants.{Terminates, CallsOn}
 use Rattle.survey.specs.declared.Ending.{Ending}
-use Rattle.survey.specs.declared.Ending.the-variants.{Unlisted, Finishes, Returns, Faulty}
-use Rattle.survey.specs.Walk.{Finding, passes, faults, checkOne}
+use Rattle.survey.specs.declared.Ending.the-variants.{Unlisted, Finishes, Returns, Faults}
+use Rattle.survey.specs.Walk.{Finding, passes, faults, findingOf}
 use Rattle.survey.specs.Chain.{Told, told, onward, follow, chainOf, checkRows, checkOf}
 use Rattle.unit.specs.declared.Unit.{Unit as ControlUnit}
 use Rattle.unit.specs.declared.Outcome.the-variants.{Denied, Saw}
 use Rattle.unit.specs.declared.UnitStep.{UnitStep}
 use Rattle.unit.specs.State.{outOfRange}
-use Rattle.unit.specs.Step.{stepRows, stepped, taken, unitStepBy, unitStep}
+use Rattle.unit.specs.Step.{stepRows, stepped, withStep, unitStepBy, unitStep}
 use Rattle.promises.specs.Library.{ours}
 use Rattle.promises.specs.Demand2.{StepAcceptedExactly, StepCodeExactly, StepTakes, StepKeeps, CheckExactly, WindowCodeExactly, WindowExactly, WindowShows}
 use Rattle.promises.proofs.Chain.Listing.{follow-all}
@@ -69,15 +70,15 @@ module _ (rows : List Row) (t : T (coded rows)) {A : Type 0} (x : A) (f : ℕ �
       (λ e. ap picked e ∙ ap (λ (b : Bool). cond b x (f c)) (ne-eqb c 0 (λ z. omega arith)))
 
 -- ── the unit's step
-module _ (u : ControlUnit) (seqs lists : List ℕ) where
+module _ (F : Format) (u : ControlUnit) (seqs lists : List ℕ) where
   abbrev r : Stepped
-  r = stepOf (envOf lists) seqs (u .runner)
+  r = stepOf (envOf F lists) seqs (u .runner)
 
-  outcome-picked : unitStep u seqs lists .outcome ≡ cond (eqb (firstCode (stepRows u seqs lists)) 0) (Saw (r .event)) (Denied (firstCode (stepRows u seqs lists)))
-  unfolding unitStep taken
-  outcome-picked = go (eqb (firstCode (stepRows u seqs lists)) 0)
+  outcome-picked : unitStep F u seqs lists .outcome ≡ cond (eqb (firstCode (stepRows F u seqs lists)) 0) (Saw (r .event)) (Denied (firstCode (stepRows F u seqs lists)))
+  unfolding unitStep withStep
+  outcome-picked = go (eqb (firstCode (stepRows F u seqs lists)) 0)
     where
-      go : (b : Bool) → cond b (taken u r) (stepped (Denied (firstCode (stepRows u seqs lists))) u) .outcome ≡ cond b (Saw (r .event)) (Denied (firstCode (stepRows u seqs lists)))
+      go : (b : Bool) → cond b (withStep u r) (stepped (Denied (firstCode (stepRows F u seqs lists))) u) .outcome ≡ cond b (Saw (r .event)) (Denied (firstCode (stepRows F u seqs lists)))
       go true = refl
       go false = refl
 
@@ -87,74 +88,72 @@ saw-apart e k h = let z : _≡_ {A = ℕ} 0 1 = cc in omega arith
 denied-tells : (k c : ℕ) → Denied k ≡ Denied c → k ≡ c
 denied-tells k c h = cc
 
-pub step-accepted-exactly : StepAcceptedExactly ours
+pub step-accepted-exactly : (F : Format) → StepAcceptedExactly F ours
 unfolding stepRows
-step-accepted-exactly u seqs lists =
-    rw outcome-picked (picked-exactly (stepRows u seqs lists) tt (Saw (r u seqs lists .event)) Denied (saw-apart (r u seqs lists .event)) denied-tells)
+step-accepted-exactly F u seqs lists =
+    rw outcome-picked (picked-exactly (stepRows F u seqs lists) tt (Saw (r F u seqs lists .event)) Denied (saw-apart (r F u seqs lists .event)) denied-tells)
 
-pub step-code-exactly : StepCodeExactly ours
+pub step-code-exactly : (F : Format) → StepCodeExactly F ours
 unfolding stepRows
-step-code-exactly u seqs lists =
-    rw outcome-picked (given-exactly (stepRows u seqs lists) tt (Saw (r u seqs lists .event)) Denied (saw-apart (r u seqs lists .event)) denied-tells)
+step-code-exactly F u seqs lists =
+    rw outcome-picked (given-exactly (stepRows F u seqs lists) tt (Saw (r F u seqs lists .event)) Denied (saw-apart (r F u seqs lists .event)) denied-tells)
 
 -- a step is denied with 16 or 17, or it is the runner's
 by-code : (P : UnitStep → Type 0) (lent range : Bool) (u : ControlUnit) (r : Stepped)
-    → P (taken u r) → P (stepped (Denied 16) u) → P (stepped (Denied 17) u) → P (unitStepBy (cond lent 16 (cond range 17 0)) u r)
+    → P (withStep u r) → P (stepped (Denied 16) u) → P (stepped (Denied 17) u) → P (unitStepBy (cond lent 16 (cond range 17 0)) u r)
 by-code P true range u r f g h = g
 by-code P false true u r f g h = h
 by-code P false false u r f g h = f
 
-pub step-case : (P : UnitStep → Type 0) (u : ControlUnit) (seqs lists : List ℕ)
-    → P (taken u (stepOf (envOf lists) seqs (u .runner))) → P (stepped (Denied 16) u) → P (stepped (Denied 17) u) → P (unitStep u seqs lists)
+pub step-case : (F : Format) (P : UnitStep → Type 0) (u : ControlUnit) (seqs lists : List ℕ)
+    → P (withStep u (stepOf (envOf F lists) seqs (u .runner))) → P (stepped (Denied 16) u) → P (stepped (Denied 17) u) → P (unitStep F u seqs lists)
 unfolding unitStep stepRows
-step-case P u seqs lists = by-code P (tablesWrong seqs lists) (outOfRange u) u (stepOf (envOf lists) seqs (u .runner))
+step-case F P u seqs lists = by-code P (tablesWrong seqs lists) (outOfRange F u) u (stepOf (envOf F lists) seqs (u .runner))
 
-pub step-takes : StepTakes ours
-unfolding unitStep taken
-step-takes u seqs lists n = rw (no-code (stepRows u seqs lists) n) (refl, refl, refl)
+pub step-takes : (F : Format) → StepTakes F ours
+unfolding unitStep withStep
+step-takes F u seqs lists n = rw (no-code (stepRows F u seqs lists) n) (refl, refl, refl)
 
 -- no step changes what packets set
-pub step-keeps : StepKeeps ours
-unfolding taken
-step-keeps u seqs lists =
-    step-case (λ (x : UnitStep). (x .unit .ledger ≡ u .ledger) × (x .unit .control ≡ u .control)) u seqs lists (refl, refl) (refl, refl) (refl, refl)
+pub step-keeps : (F : Format) → StepKeeps F ours
+unfolding withStep
+step-keeps F u seqs lists =
+    step-case F (λ (x : UnitStep). (x .unit .ledger ≡ u .ledger) × (x .unit .control ≡ u .control)) u seqs lists (refl, refl) (refl, refl) (refl, refl)
 
 -- ── the check
 abbrev listed : Ending → Bool
 listed (Unlisted code) = false
 listed Finishes = true
 listed Returns = true
-listed (Faulty code n p) = true
+listed (Faults n f) = true
 
 onward-listed : (go : ℕ → Told) (n : ℕ) (found : Finding) → ((m : ℕ) → listed (go m .ending) ≡ true) → listed (onward go n found .ending) ≡ true
 unfolding onward
 onward-listed go n (passes k x items p Terminates) h = refl
 onward-listed go n (passes k x items p (CallsOn m)) h = h m
-onward-listed go n (faults p code) h = refl
+onward-listed go n (faults f) h = refl
 
 abbrev nothing : ℕ → Told
 nothing c = told [] (Unlisted c) 0 0
 
-chain-apart : (E : Env) (seqs : List ℕ) (n c : ℕ) → chainOf E seqs n ≡ nothing c → ⊥
+chain-apart : (F : Format) (found : ℕ → Finding) (n c : ℕ) → chainOf F found n ≡ nothing c → ⊥
 unfolding chainOf
-chain-apart E seqs n c h = false≢true (sym (ap (λ (t : Told). listed (t .ending)) h) ∙ always)
+chain-apart F found n c h = false≢true (sym (ap (λ (t : Told). listed (t .ending)) h) ∙ always)
   where
-    always : listed (follow E seqs (suc (E .last)) [] n .ending) ≡ true
-    always =
-        follow-all E seqs (λ before t. listed (t .ending) ≡ true) (λ before. refl)
-        (λ before m go e ih. onward-listed go m (checkOne E (textOf E seqs m)) ih) (suc (E .last)) [] n
+    always : listed (follow found (suc (F .last)) [] n .ending) ≡ true
+    always = follow-all found (λ before t. listed (t .ending) ≡ true) (λ before. refl) (λ before m go e ih. onward-listed go m (found m) ih) (suc (F .last)) [] n
 
 nothing-tells : (k c : ℕ) → nothing k ≡ nothing c → k ≡ c
 nothing-tells k c h = let e : Unlisted k ≡ Unlisted c = ap (λ (t : Told). t .ending) h in cc
 
 pub check-exactly : CheckExactly ours
 unfolding checkOf checkRows
-check-exactly seqs lists n =
-    let rows = checkRows seqs lists n in
-    let chain = chainOf (envOf lists) seqs n in
+check-exactly F seqs lists n =
+    let rows = checkRows F seqs lists n in
+    let found = findingOf (envOf F lists) seqs in
     record {
-      followed = picked-exactly rows tt chain nothing (chain-apart (envOf lists) seqs n) nothing-tells;
-      refused = given-exactly rows tt chain nothing (chain-apart (envOf lists) seqs n) nothing-tells;
+      followed = picked-exactly rows tt (chainOf F found n) nothing (chain-apart F found n) nothing-tells;
+      refused = given-exactly rows tt (chainOf F found n) nothing (chain-apart F found n) nothing-tells;
     }
 
 -- ── the window

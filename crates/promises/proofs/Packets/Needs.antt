@@ -3,44 +3,37 @@
 use Prim.Native.Nat.{ℕ, _+_, _≤_, _<_}
 use native.Mathlib.Omega.{arith}
 use mathlib.Core.Path.{_≡_, refl, sym, _∙_}
-use mathlib.Core.Bool.{Bool, true, false, not, _&&_, _||_, true≢false, false≢true}
+use mathlib.Core.Bool.{Bool, true, false, not, _&&_, true≢false, false≢true}
 use mathlib.Core.Logic.{_⊎_, inl, inr, ⊎-elim}
 use lib.Dec.{leb, eqb}
 use lib.ListN.{length}
 use borrow.Author.Tests.{le-ltb, ltb-false, le-leb, leb-true, eq-eqb, ne-eqb, eqb-true, eqb-false, not-false}
 use Rattle.octets.specs.Bytes.{byteAt, tripleAt}
 use Rattle.octets.specs.Rows.{NoneHolds}
-use Rattle.sequence.proofs.Laws.{and-both}
-use Rattle.unit.specs.declared.Kind.{Kind}
-use Rattle.unit.specs.declared.Kind.the-variants.{Status, Dump, Allow, Mode, Clear, Select, Uplink, Foreign, Unheard}
+use Rattle.octets.proofs.Bools.{and-both, or-either}
+use Rattle.memory.specs.declared.Format.{Format}
+use Rattle.unit.specs.declared.Telecommand.{Telecommand}
+use Rattle.unit.specs.declared.Telecommand.the-variants.{Status, Dump, Allow, Mode, Clear, Select, Uplink, Foreign, Unheard}
 use Rattle.unit.specs.State.{isNone}
-use Rattle.unit.specs.Packet.{kindOf, isForeign, isUnheard, lengthGood, pairAllowed, ownRows, packetRows}
+use Rattle.unit.specs.Packet.{telecommandOf, is, sizeGood, pairAllowed, ownRows, packetRows}
 use Rattle.unit.specs.Answer.{answerOf}
-use Rattle.unit.proofs.Laws.{accepted}
+use Rattle.unit.proofs.Laws.{accepted, passed}
 use Rattle.promises.specs.Library.{ours}
 use Rattle.promises.specs.Sent.{Sent, bc1, bc2}
 use Rattle.promises.specs.Demand2.{Pair, Wanted, ObeyedExactly}
 use Rattle.promises.proofs.Packets.Tests.{range-exactly, lent-exactly, one-table-exactly}
 
 -- ── pairs of modes, and the selection that AUTO wants
-one-of : (a b : Bool) → (a || b) ≡ true → (a ≡ true) ⊎ (b ≡ true)
-one-of true b e = inl refl
-one-of false b e = inr e
-
 module _ (a b : ℕ) where
   pair-at : (x y : ℕ) → (eqb a x && eqb b y) ≡ true → (a ≡ x) × (b ≡ y)
   pair-at x y e = let (p, q) = and-both (eqb a x) (eqb b y) e in (eqb-true a x p, eqb-true b y q)
 
   pair-told : pairAllowed a b ≡ true → Pair a b
   pair-told e =
-      ⊎-elim (λ h. inl (pair-at 1 2 h)) (λ f.
-      ⊎-elim (λ h. inr (inl (pair-at 2 1 h))) (λ g.
-      ⊎-elim (λ h. inr (inr (inl (pair-at 2 3 h)))) (λ i.
-      ⊎-elim (λ h. inr (inr (inr (pair-at 3 2 h)))) (λ j. absurd (false≢true j))
-      (one-of (eqb a 3 && eqb b 2) false i))
-      (one-of (eqb a 2 && eqb b 3) _ g))
-      (one-of (eqb a 2 && eqb b 1) _ f))
-      (one-of (eqb a 1 && eqb b 2) _ e)
+      or-either (eqb a 1 && eqb b 2) _ e (λ h. inl (pair-at 1 2 h)) (λ f.
+      or-either (eqb a 2 && eqb b 1) _ f (λ h. inr (inl (pair-at 2 1 h))) (λ g.
+      or-either (eqb a 2 && eqb b 3) _ g (λ h. inr (inr (inl (pair-at 2 3 h)))) (λ i.
+      or-either (eqb a 3 && eqb b 2) false i (λ h. inr (inr (inr (pair-at 3 2 h)))) (λ j. absurd (false≢true j)))))
 
   -- the pair is allowed, and the mode asked for is 1, 2 or 3
   pair-test : Pair a b → (pairAllowed a b ≡ true) × (1 ≤ b) × (b ≤ 3)
@@ -71,16 +64,16 @@ yes : (t : Bool) → t ≡ true → not t ≡ false
 yes t e = rw e
 
 -- ── what is left of a packet's rows, once sizes and state are right
-record Passed (k : Kind) (s : Sent) : Type 0 where
+record Passed {F : Format} (k : Telecommand) (s : Sent F) : Type 0 where
   some : 0 < length (s .bytes)
   most : length (s .bytes) ≤ 133
-  ours : isForeign k ≡ false
-  heard : isUnheard k ≡ false
-  sized : lengthGood k (s .bytes) ≡ true
-  own : NoneHolds (ownRows k (s .unit) (s .bytes))
+  ours : is Foreign k ≡ false
+  heard : is Unheard k ≡ false
+  sized : sizeGood k (s .bytes) ≡ true
+  own : NoneHolds (ownRows F k (s .unit) (s .bytes))
 
 -- it is what the command needs
-told : (k : Kind) (s : Sent) → Passed k s → Wanted k s
+told : {F : Format} (k : Telecommand) (s : Sent F) → Passed k s → Wanted k s
 unfolding ownRows
 told Status s w = eqb-true (length (s .bytes)) 1 (w .sized)
 told Dump s w = (eqb-true (length (s .bytes)) 7 (w .sized), one-table-exactly (tripleAt (s .bytes) 1) (tripleAt (s .bytes) 4) .0 (w .own .0))
@@ -96,11 +89,11 @@ told Mode s w =
       selected-told (bc2 s) (u .selection) (w .own .1 .1 .1 .1 .0),
     )
 told Clear s w = eqb-true (length (s .bytes)) 1 (w .sized)
-told Select s w =
+told {F} Select s w =
     let mode = s .unit .control .mode in (
       eqb-true (length (s .bytes)) 2 (w .sized),
       eqb-true mode 2 (not-false (eqb mode 2) (w .own .0)),
-      ltb-false 127 (bc2 s) (w .own .1 .0),
+      ltb-false (F .last) (bc2 s) (w .own .1 .0),
     )
 told Uplink s w =
     let e = eqb-true (length (s .bytes)) (5 + byteAt (s .bytes) 4) (w .sized) in
@@ -110,11 +103,11 @@ told Foreign s w = true≢false (w .ours)
 told Unheard s w = true≢false (w .heard)
 
 -- and what it needs is enough
-by-length : (k : Kind) (s : Sent) → isForeign k ≡ false → isUnheard k ≡ false → 0 < length (s .bytes) → length (s .bytes) ≤ 133
-    → lengthGood k (s .bytes) ≡ true → NoneHolds (ownRows k (s .unit) (s .bytes)) → Passed k s
+by-length : {F : Format} (k : Telecommand) (s : Sent F) → is Foreign k ≡ false → is Unheard k ≡ false → 0 < length (s .bytes) → length (s .bytes) ≤ 133
+    → sizeGood k (s .bytes) ≡ true → NoneHolds (ownRows F k (s .unit) (s .bytes)) → Passed k s
 by-length k s ours heard some most sized own = record { some = some; most = most; ours = ours; heard = heard; sized = sized; own = own }
 
-enough : (k : Kind) (s : Sent) → Wanted k s → Passed k s
+enough : {F : Format} (k : Telecommand) (s : Sent F) → Wanted k s → Passed k s
 unfolding ownRows
 enough Status s e = by-length Status s refl refl (omega arith) (omega arith) (eq-eqb (length (s .bytes)) 1 e) tt
 enough Dump s (e, i) =
@@ -142,10 +135,10 @@ enough Mode s (e, a, p, f) =
       ),
     )
 enough Clear s e = by-length Clear s refl refl (omega arith) (omega arith) (eq-eqb (length (s .bytes)) 1 e) tt
-enough Select s (e, m, h) =
+enough {F} Select s (e, m, h) =
     let mode = s .unit .control .mode in
     by-length Select s refl refl (omega arith) (omega arith) (eq-eqb (length (s .bytes)) 2 e)
-    (yes (eqb mode 2) (eq-eqb mode 2 m), (le-ltb 127 (bc2 s) h, tt))
+    (yes (eqb mode 2) (eq-eqb mode 2 m), (le-ltb (F .last) (bc2 s) h, tt))
 enough Uplink s (e, h, r, i) =
     by-length Uplink s refl refl (omega arith) (omega arith) (eq-eqb (length (s .bytes)) (5 + byteAt (s .bytes) 4) e)
     (r, (one-table-exactly (tripleAt (s .bytes) 1) (byteAt (s .bytes) 4) .1 i, tt))
@@ -153,25 +146,25 @@ enough Foreign s h = absurd h
 enough Unheard s h = absurd h
 
 -- ── the whole table
-pub obeyed-exactly : ObeyedExactly ours
+pub obeyed-exactly : (F : Format) → ObeyedExactly F ours
 unfolding answerOf packetRows
-obeyed-exactly s =
-    let k = kindOf (bc1 s) in
+obeyed-exactly F s =
+    let k = telecommandOf (bc1 s) in
     let n = length (s .bytes) in
-    let table = accepted (s .unit) (s .seqs) (s .lists) (s .out) (s .bytes) in (
+    let table = accepted F (s .unit) (s .seqs) (s .lists) (s .out) (s .bytes) in (
       λ z.
-          let h = table .0 z in
-          let e = eqb-false n 0 (h .1 .1 .0) in (
-            lent-exactly s .0 (h .0),
-            range-exactly (s .unit) .0 (h .1 .0),
+          let (arrives, shape, own) = passed F (s .unit) (s .seqs) (s .lists) (s .out) (s .bytes) z in
+          let e = eqb-false n 0 (arrives .1 .1 .0) in (
+            lent-exactly s .0 (arrives .0),
+            range-exactly F (s .unit) .0 (arrives .1 .0),
             told k s
                 (record {
                   some = omega arith;
-                  most = ltb-false 133 n (h .1 .1 .1 .0);
-                  ours = h .1 .1 .1 .1 .0;
-                  heard = h .1 .1 .1 .1 .1 .0;
-                  sized = not-false (lengthGood k (s .bytes)) (h .1 .1 .1 .1 .1 .1 .0);
-                  own = h .1 .1 .1 .1 .1 .1 .1;
+                  most = ltb-false 133 n (arrives .1 .1 .1 .0);
+                  ours = shape .0;
+                  heard = shape .1 .0;
+                  sized = not-false (sizeGood k (s .bytes)) (shape .1 .1 .0);
+                  own = own;
                 }),
           ),
       λ (l, r, v).
@@ -180,12 +173,12 @@ obeyed-exactly s =
           table .1 (
             lent-exactly s .1 l,
             (
-              range-exactly (s .unit) .1 r,
+              range-exactly F (s .unit) .1 r,
               (
                 ne-eqb n 0 (λ z. omega arith),
                 (
                   le-ltb 133 n (w .most),
-                  (w .ours, (w .heard, (yes (lengthGood k (s .bytes)) (w .sized), w .own))),
+                  (w .ours, (w .heard, (yes (sizeGood k (s .bytes)) (w .sized), w .own))),
                 ),
               ),
             ),

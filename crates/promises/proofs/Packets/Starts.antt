@@ -1,6 +1,6 @@
 -- In MANUAL 83 n and then 21 03 are obeyed, and the runner stands at the door of sequence n.
 -- Assumes nothing.
-use Prim.Native.Nat.{ℕ, _≤_}
+use Prim.Native.Nat.{ℕ, _≤_, _<_}
 use native.Mathlib.Omega.{arith}
 use mathlib.Core.Path.{_≡_, refl, sym, ap, _∙_, subst}
 use mathlib.Core.Bool.{true, false}
@@ -8,70 +8,72 @@ use mathlib.Core.List.{List, [], _∷_}
 use mathlib.Core.Logic.{⊎-elim}
 use lib.ListN.{length}
 use borrow.Author.Tests.{le-ltb, ne-eqb}
+use Rattle.memory.specs.declared.Format.{Format}
+use Rattle.memory.specs.Memory.{Fair}
 use Rattle.unit.specs.declared.Unit.{Unit as ControlUnit}
 use Rattle.unit.specs.State.{powerOn, moded, selected}
-use Rattle.unit.specs.Packet.{kindOf, ownRows, lentWrong, packetRows, codeOf}
-use Rattle.unit.specs.Answer.{logged, obeyedUnit, obeyedSeqs, obeyedLists, commandOf, unitAfter, answerOf}
+use Rattle.unit.specs.Packet.{commandOf, telecommandOf, ownRows, lentWrong, packetRows, codeOf}
+use Rattle.unit.specs.Answer.{effect, obeyedUnit, unitAfter, answerOf}
 use Rattle.promises.specs.Library.{ours}
 use Rattle.promises.specs.Runs.{AtDoor}
-use Rattle.promises.specs.Demand3.{World, world, packet, after, powered, acted, modeOf, selecting, starting, Selects, Starts, Applies}
+use Rattle.promises.specs.Demand3.{World, world, packet, after, powered, acted, modeOf, selecting, starting, SelectionObeyed, Starts, Applies}
 use Rattle.promises.proofs.Range.Units.{order-in}
-use Rattle.promises.proofs.Packets.Auto.{back-is, seqs-same, lists-same}
+use Rattle.promises.proofs.Packets.Auto.{seqs-same, lists-same}
 use Rattle.promises.proofs.Range.Steady.{Steady, tables-right, steady}
 
-unit-obeyed : (u : ControlUnit) (seqs lists out p : List ℕ) → codeOf u seqs lists out p ≡ 0 → unitAfter u seqs lists out p ≡ obeyedUnit (commandOf p) p u
+unit-obeyed : (F : Format) (u : ControlUnit) (seqs lists out p : List ℕ) → codeOf F u seqs lists out p ≡ 0 → unitAfter F u seqs lists out p ≡ obeyedUnit (commandOf p) p u
 unfolding unitAfter
-unit-obeyed u seqs lists out p e = rw e
+unit-obeyed F u seqs lists out p e = rw e
 
-module _ {w : World} (g : Steady w) (out : List ℕ) (room : 16384 ≤ length out) where
+module _ {F : Format} {w : World F} (g : Steady w) (out : List ℕ) (room : 16384 ≤ length out) where
   lent-right : lentWrong (w .seqs) (w .lists) out ≡ false
   unfolding lentWrong
   lent-right = rw (tables-right g, le-ltb (length out) 16384 room)
 
   -- ── 83 n
-  select-code : (n : ℕ) → modeOf w ≡ 2 → n ≤ 127 → codeOf (w .unit) (w .seqs) (w .lists) out (selecting n) ≡ 0
-  unfolding codeOf packetRows kindOf ownRows
-  select-code n m h = rw (lent-right, order-in (w .unit) (g .order), m, le-ltb 127 n h)
+  select-code : (n : ℕ) → modeOf w ≡ 2 → n ≤ F .last → codeOf F (w .unit) (w .seqs) (w .lists) out (selecting n) ≡ 0
+  unfolding codeOf packetRows telecommandOf ownRows
+  select-code n m h = rw (lent-right, order-in (g .fair) (w .unit) (g .order), m, le-ltb (F .last) n h)
 
   -- ── 21 03
-  start-code : (n : ℕ) → modeOf w ≡ 2 → w .unit .control .selection ≡ n → n ≤ 127 → codeOf (w .unit) (w .seqs) (w .lists) out starting ≡ 0
-  unfolding codeOf packetRows kindOf ownRows
-  start-code n m s h = rw (lent-right, order-in (w .unit) (g .order), allowed, m, ne-eqb (w .unit .control .selection) 255 (λ e. omega arith))
+  start-code : (n : ℕ) → modeOf w ≡ 2 → w .unit .control .selection ≡ n → n ≤ F .last → codeOf F (w .unit) (w .seqs) (w .lists) out starting ≡ 0
+  unfolding codeOf packetRows telecommandOf ownRows
+  start-code n m s h = rw (lent-right, order-in (g .fair) (w .unit) (g .order), allowed, m, ne-eqb (w .unit .control .selection) 255 (let last = g .fair .last in λ e. omega arith))
     where
       allowed : w .unit .control .allowed ≡ true
       allowed = ⊎-elim (λ (e : modeOf w ≡ 1). absurd (omega arith)) (λ e. e) (g .free)
 
   -- ── 20, and 21 02 from STANDBY
-  allow-code : codeOf (w .unit) (w .seqs) (w .lists) out (0x20 ∷ []) ≡ 0
-  unfolding codeOf packetRows kindOf ownRows
-  allow-code = rw (lent-right, order-in (w .unit) (g .order))
+  allow-code : codeOf F (w .unit) (w .seqs) (w .lists) out (0x20 ∷ []) ≡ 0
+  unfolding codeOf packetRows telecommandOf ownRows
+  allow-code = rw (lent-right, order-in (g .fair) (w .unit) (g .order))
 
-  manual-code : modeOf w ≡ 1 → w .unit .control .allowed ≡ true → codeOf (w .unit) (w .seqs) (w .lists) out (0x21 ∷ 0x02 ∷ []) ≡ 0
-  unfolding codeOf packetRows kindOf ownRows
-  manual-code m a = rw (lent-right, order-in (w .unit) (g .order), a, m)
+  manual-code : modeOf w ≡ 1 → w .unit .control .allowed ≡ true → codeOf F (w .unit) (w .seqs) (w .lists) out (0x21 ∷ 0x02 ∷ []) ≡ 0
+  unfolding codeOf packetRows telecommandOf ownRows
+  manual-code m a = rw (lent-right, order-in (g .fair) (w .unit) (g .order), a, m)
 
-pub applies : Applies ours
-unfolding answerOf obeyedUnit obeyedSeqs obeyedLists kindOf powerOn
-applies seqs lists s l out out′ room room′ time time′ =
-    let w = world powerOn seqs lists in
+pub applies : {F : Format} → Fair F → 4 < F .size → Applies F ours
+unfolding answerOf effect obeyedUnit telecommandOf powerOn moded
+applies {F} fair size seqs lists s l out out′ room room′ time time′ =
+    let w = world {F = F} powerOn seqs lists in
     let v = after ours (packet out time (0x20 ∷ [])) w in
     let r = acted (packet out time (0x20 ∷ [])) (powered seqs lists s l) in
-    let e = unit-obeyed powerOn seqs lists out (0x20 ∷ []) (allow-code (steady (powered seqs lists s l)) out room) in
+    let e = unit-obeyed F powerOn seqs lists out (0x20 ∷ []) (allow-code (steady fair size (powered seqs lists s l)) out room) in
     let m = ap (λ (u : ControlUnit). u .control .mode) e in
     let a = ap (λ (u : ControlUnit). u .control .allowed) e in
-    let e′ = unit-obeyed (v .unit) (v .seqs) (v .lists) out′ (0x21 ∷ 0x02 ∷ []) (manual-code (steady r) out′ room′ m a) in (
+    let e′ = unit-obeyed F (v .unit) (v .seqs) (v .lists) out′ (0x21 ∷ 0x02 ∷ []) (manual-code (steady fair size r) out′ room′ m a) in (
       acted (packet out′ time′ (0x21 ∷ 0x02 ∷ [])) r,
-      ap (λ (u : ControlUnit). u .control .mode) e′ ∙ back-is 2 (logged (0x21 ∷ 0x02 ∷ []) (v .unit)) refl,
-      seqs-same _ (v .seqs) (v .lists) out′ (0x21 ∷ 0x02 ∷ []) (λ o. refl) ∙ seqs-same _ seqs lists out (0x20 ∷ []) (λ o. refl),
-      lists-same _ (v .seqs) (v .lists) out′ (0x21 ∷ 0x02 ∷ []) (λ o. refl) ∙ lists-same _ seqs lists out (0x20 ∷ []) (λ o. refl),
+      ap (λ (u : ControlUnit). u .control .mode) e′,
+      seqs-same F _ (v .seqs) (v .lists) out′ (0x21 ∷ 0x02 ∷ []) (λ o. refl) ∙ seqs-same F _ seqs lists out (0x20 ∷ []) (λ o. refl),
+      lists-same F _ (v .seqs) (v .lists) out′ (0x21 ∷ 0x02 ∷ []) (λ o. refl) ∙ lists-same F _ seqs lists out (0x20 ∷ []) (λ o. refl),
     )
 
-pub selects : Selects ours
-unfolding answerOf obeyedUnit obeyedSeqs obeyedLists kindOf selected
-selects w r m n h out room time =
+pub selects : {F : Format} → Fair F → 4 < F .size → SelectionObeyed F ours
+unfolding answerOf effect obeyedUnit telecommandOf selected
+selects {F} fair size w r m n h out room time =
     let u = w .unit in
-    let code = select-code (steady r) out room n m h in
-    let e = unit-obeyed u (w .seqs) (w .lists) out (selecting n) code in (
+    let code = select-code (steady fair size r) out room n m h in
+    let e = unit-obeyed F u (w .seqs) (w .lists) out (selecting n) code in (
       code,
       record {
         reached = acted (packet out time (selecting n)) r;
@@ -79,16 +81,16 @@ selects w r m n h out room time =
         selection = ap (λ (v : ControlUnit). v .control .selection) e;
         known = h;
       },
-      seqs-same _ (w .seqs) (w .lists) out (selecting n) (λ o. refl),
-      lists-same _ (w .seqs) (w .lists) out (selecting n) (λ o. refl),
+      seqs-same F _ (w .seqs) (w .lists) out (selecting n) (λ o. refl),
+      lists-same F _ (w .seqs) (w .lists) out (selecting n) (λ o. refl),
     )
 
-pub starts : Starts ours
-unfolding answerOf obeyedUnit obeyedSeqs obeyedLists kindOf moded
-starts n w g out room time =
+pub starts : {F : Format} → Fair F → 4 < F .size → Starts F ours
+unfolding answerOf effect obeyedUnit telecommandOf moded
+starts {F} fair size n w g out room time =
     let u = w .unit in
-    let code = start-code (steady (g .reached)) out room n (g .manual) (g .selection) (g .known) in
-    let e = unit-obeyed u (w .seqs) (w .lists) out starting code in (
+    let code = start-code (steady fair size (g .reached)) out room n (g .manual) (g .selection) (g .known) in
+    let e = unit-obeyed F u (w .seqs) (w .lists) out starting code in (
       code,
       record {
         reached = acted (packet out time starting) (g .reached);
@@ -98,6 +100,6 @@ starts n w g out room time =
             (record { running = refl; entering = refl; sequence = g .selection; place = refl; raster = refl; mirror = refl });
         known = g .known;
       },
-      seqs-same _ (w .seqs) (w .lists) out starting (λ o. refl),
-      lists-same _ (w .seqs) (w .lists) out starting (λ o. refl),
+      seqs-same F _ (w .seqs) (w .lists) out starting (λ o. refl),
+      lists-same F _ (w .seqs) (w .lists) out starting (λ o. refl),
     )

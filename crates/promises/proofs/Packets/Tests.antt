@@ -5,23 +5,23 @@ use native.Mathlib.Omega.{arith}
 use mathlib.Core.Path.{_≡_, refl, ap}
 use mathlib.Core.Bool.{Bool, true, false, not, _&&_, _||_, true≢false}
 use mathlib.Core.List.{List, [], _∷_}
-use mathlib.Core.Logic.{_↔_, inl, inr, ⊎-elim}
+use mathlib.Core.Logic.{_↔_, _⊎_, inl, inr, ⊎-elim}
 use lib.Dec.{ltb, leb, eqb}
 use lib.ListN.{length}
-use borrow.Author.Tests.{lt-ltb, le-ltb, ltb-false, lt-leb, le-leb, leb-true, eq-eqb, ne-eqb, eqb-true, eqb-false, not-false}
+use borrow.Author.Tests.{lt-ltb, le-ltb, ltb-false, lt-leb, le-leb, leb-true, leb-false, eq-eqb, ne-eqb, eqb-true, eqb-false, not-false}
+use Rattle.octets.proofs.Bools.{and-both, or-neither, choice}
+use Rattle.memory.specs.declared.Format.{Format}
 use Rattle.memory.specs.declared.Addressed.{Addressed}
 use Rattle.memory.specs.declared.Addressed.the-variants.{Known, Nowhere}
 use Rattle.memory.specs.declared.Range.{Range}
 use Rattle.memory.specs.declared.Range.the-variants.{Sequences, LineLists, Wrong}
 use Rattle.memory.specs.Memory.{tablesWrong, within, rangeOf, rangeFrom, rangeAt, isWrong}
 use Rattle.memory.proofs.Laws.{sizes, right-sizes}
-use Rattle.sequence.proofs.Laws.{and-both, or-neither}
-use Rattle.survey.proofs.Names.{choice}
 use Rattle.unit.specs.declared.Unit.{Unit as ControlUnit}
-use Rattle.unit.specs.State.{beyond, isNone, some, runsWrong, rangeTests, outOfRange}
+use Rattle.unit.specs.State.{isNone, some, runsWrong, rangeTests, outOfRange}
 use Rattle.unit.specs.Packet.{lentWrong}
 use Rattle.promises.specs.Sent.{Sent}
-use Rattle.promises.specs.Demand2.{Lent, UpToOrNone, RangeExactly, InSequences, InLineLists, InOneTable}
+use Rattle.promises.specs.Demand2.{Lent, RangeExactly, InSequences, InLineLists, InOneTable}
 
 -- none of these tests holds
 abbrev NoneOf : List Bool → Type 0
@@ -37,17 +37,19 @@ of-none [] n = refl
 of-none (t ∷ ts) n = rw (n .0) (of-none ts (n .1))
 
 -- ── the state
-within-bound : (n : ℕ) → beyond n ≡ false → UpToOrNone 127 n
-within-bound n = go (ltb 127 n) (eqb n 255) refl refl
+-- a test that none passes does not hold exactly when what it stands for does, or the number is none
+unless-none : (t : Bool) (n : ℕ) {A : Type 0} → (t ≡ false → A) → (t && not (isNone n)) ≡ false → A ⊎ (n ≡ 255)
+unless-none t n {A} f = go t (isNone n) refl refl
   where
-    go : (a b : Bool) → ltb 127 n ≡ a → eqb n 255 ≡ b → (a && not b) ≡ false → UpToOrNone 127 n
+    go : (a b : Bool) → t ≡ a → isNone n ≡ b → (a && not b) ≡ false → A ⊎ (n ≡ 255)
     go true true p q e = inr (eqb-true n 255 q)
     go true false p q e = absurd (true≢false e)
-    go false b p q e = inl (ltb-false 127 n p)
+    go false b p q e = inl (f p)
 
-not-beyond : (n : ℕ) → UpToOrNone 127 n → beyond n ≡ false
-not-beyond n (inl h) = simp (le-ltb 127 n h)
-not-beyond n (inr e) = simp (e)
+none-passes : (t : Bool) (n : ℕ) {A : Type 0} → (A → t ≡ false) → A ⊎ (n ≡ 255) → (t && not (isNone n)) ≡ false
+none-passes t n f (inl h) = simp (f h)
+none-passes true n f (inr e) = simp (e)
+none-passes false n f (inr e) = refl
 
 abbrev RunsWell : ControlUnit → Type 0
 RunsWell u = u .runner .running ≡ true → (u .control .mode ≡ 3) × (u .control .selection ≡ 255 → ⊥) × (u .runner .sequence ≡ 255 → ⊥)
@@ -67,27 +69,27 @@ not-wrong u f = go (u .runner .running) refl
     go true e = let (m, p, q) = f e in simp (eq-eqb (u .control .mode) 3 m, ne-eqb (u .control .selection) 255 p, ne-eqb (u .runner .sequence) 255 q)
     go false e = refl
 
-pub range-exactly : RangeExactly
+pub range-exactly : (F : Format) → RangeExactly F
 unfolding outOfRange rangeTests
-range-exactly u = (
+range-exactly F u = (
   λ e.
-      let n = none-of (rangeTests u) e in
+      let n = none-of (rangeTests F u) e in
       record {
         least = ltb-false (u .control .mode) 1 (n .0);
         most = ltb-false 3 (u .control .mode) (n .1 .0);
         failed = ltb-false 15 (u .ledger .code) (n .1 .1 .0);
         abort = ltb-false 15 (u .watch .abort) (n .1 .1 .1 .0);
-        sequence = within-bound (u .runner .sequence) (n .1 .1 .1 .1 .0);
-        selection = within-bound (u .control .selection) (n .1 .1 .1 .1 .1 .0);
-        place = ltb-false 127 (u .runner .place) (n .1 .1 .1 .1 .1 .1 .0);
-        raster = within-bound (u .runner .raster) (n .1 .1 .1 .1 .1 .1 .1 .0);
+        sequence = unless-none (ltb (F .last) (u .runner .sequence)) (u .runner .sequence) (ltb-false (F .last) (u .runner .sequence)) (n .1 .1 .1 .1 .0);
+        selection = unless-none (ltb (F .last) (u .control .selection)) (u .control .selection) (ltb-false (F .last) (u .control .selection)) (n .1 .1 .1 .1 .1 .0);
+        place = leb-false (F .size) (u .runner .place) (n .1 .1 .1 .1 .1 .1 .0);
+        raster = unless-none (leb (F .size) (u .runner .raster .place)) (u .runner .raster .place) (leb-false (F .size) (u .runner .raster .place)) (n .1 .1 .1 .1 .1 .1 .1 .0);
         list = ltb-false 47 (u .watch .list) (n .1 .1 .1 .1 .1 .1 .1 .1 .0);
         mirror = ltb-false 2400 (u .runner .mirror) (n .1 .1 .1 .1 .1 .1 .1 .1 .1 .0);
-        count = ltb-false 8 (u .runner .count) (n .1 .1 .1 .1 .1 .1 .1 .1 .1 .1 .0);
+        count = ltb-false 8 (u .runner .raster .count) (n .1 .1 .1 .1 .1 .1 .1 .1 .1 .1 .0);
         runs = runs-well u (n .1 .1 .1 .1 .1 .1 .1 .1 .1 .1 .1 .0);
       },
   λ r.
-      of-none (rangeTests u) (
+      of-none (rangeTests F u) (
         le-ltb (u .control .mode) 1 (r .least),
         (
           le-ltb 3 (u .control .mode) (r .most),
@@ -96,19 +98,19 @@ range-exactly u = (
             (
               le-ltb 15 (u .watch .abort) (r .abort),
               (
-                not-beyond (u .runner .sequence) (r .sequence),
+                none-passes (ltb (F .last) (u .runner .sequence)) (u .runner .sequence) (le-ltb (F .last) (u .runner .sequence)) (r .sequence),
                 (
-                  not-beyond (u .control .selection) (r .selection),
+                  none-passes (ltb (F .last) (u .control .selection)) (u .control .selection) (le-ltb (F .last) (u .control .selection)) (r .selection),
                   (
-                    le-ltb 127 (u .runner .place) (r .place),
+                    lt-leb (F .size) (u .runner .place) (r .place),
                     (
-                      not-beyond (u .runner .raster) (r .raster),
+                      none-passes (leb (F .size) (u .runner .raster .place)) (u .runner .raster .place) (lt-leb (F .size) (u .runner .raster .place)) (r .raster),
                       (
                         le-ltb 47 (u .watch .list) (r .list),
                         (
                           le-ltb 2400 (u .runner .mirror) (r .mirror),
                           (
-                            le-ltb 8 (u .runner .count) (r .count),
+                            le-ltb 8 (u .runner .raster .count) (r .count),
                             (not-wrong u (r .runs), tt),
                           ),
                         ),
@@ -124,7 +126,7 @@ range-exactly u = (
 )
 
 -- ── sizes
-pub lent-exactly : (s : Sent) → (lentWrong (s .seqs) (s .lists) (s .out) ≡ false) ↔ Lent s
+pub lent-exactly : {F : Format} (s : Sent F) → (lentWrong (s .seqs) (s .lists) (s .out) ≡ false) ↔ Lent s
 unfolding lentWrong
 lent-exactly s = (
   λ e.

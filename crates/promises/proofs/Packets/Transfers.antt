@@ -7,12 +7,13 @@ use mathlib.Core.List.{List}
 use mathlib.Core.Logic.{inl, inr, ⊎-elim}
 use lib.ListN.{length, length-take, length-drop}
 use Rattle.octets.specs.Bytes.{byteAt, tripleAt}
+use Rattle.memory.specs.declared.Format.{Format}
 use Rattle.memory.specs.declared.Range.{Range}
 use Rattle.memory.specs.Memory.{partOf, written, seqsWritten, listsWritten}
 use Rattle.memory.proofs.Laws.{written-length, written-same, written-other}
-use Rattle.unit.specs.declared.Kind.the-variants.{Dump, Uplink}
-use Rattle.unit.specs.Packet.{kindOf, uplinkRange}
-use Rattle.unit.specs.Answer.{obeyedUnit, reply, obeyedSeqs, obeyedLists}
+use Rattle.unit.specs.declared.Telecommand.the-variants.{Dump, Uplink}
+use Rattle.unit.specs.Packet.{telecommandOf, uplinkRange}
+use Rattle.unit.specs.Answer.{effect, obeyedUnit, reply}
 use Rattle.promises.specs.Library.{ours}
 use Rattle.promises.specs.Sent.{seqsLeft, listsLeft}
 use Rattle.promises.specs.Demand2.{InSequences, InLineLists, part, Answered, OnlyLogged, Effect07, Written, dataOf, EffectE7}
@@ -24,9 +25,9 @@ use Rattle.promises.proofs.Packets.Leaves.{left, answered, silent, tabl
 part-length : (t : List ℕ) (at len : ℕ) → at + len ≤ length t → length (part t at len) ≡ len
 part-length t at len h = simp (length-take, length-drop) (omega arith)
 
-pub effect-07 : Effect07 ours
-unfolding kindOf obeyedUnit obeyedSeqs obeyedLists reply
-effect-07 s o =
+pub effect-07 : (F : Format) → Effect07 F ours
+unfolding telecommandOf effect obeyedUnit reply
+effect-07 F s o =
     let a = tripleAt (s .bytes) 1 in
     let len = tripleAt (s .bytes) 4 in
     let l = left Dump 0x07 refl s o in
@@ -63,9 +64,9 @@ written-over t at len d e h =
       behind = λ i l. written-other t at d i (inr (omega arith));
     }
 
-pub effect-E7 : EffectE7 ours
-unfolding kindOf obeyedUnit obeyedSeqs obeyedLists reply
-effect-E7 s o =
+pub effect-E7 : (F : Format) → EffectE7 F ours
+unfolding telecommandOf effect obeyedUnit reply
+effect-E7 F s o =
     let a = tripleAt (s .bytes) 1 in
     let len = byteAt (s .bytes) 4 in
     let d = dataOf s in

@@ -10,11 +10,12 @@ use lib.Dec.{T, ltb, eqb}
 use borrow.Author.Tests.{eqb-true, eqb-false, ne-eqb, ltb-true}
 use Rattle.octets.specs.Bytes.{byteAt}
 use Rattle.octets.specs.Rows.{Row, firstCode, coded}
+use Rattle.octets.proofs.Bools.{choice, and-T}
 use Rattle.memory.specs.declared.Place.{Place}
 use Rattle.sequence.specs.declared.Command.{Command}
 use Rattle.sequence.specs.declared.Command.the-variants.{RunRaster, Expose, LoopBack, CallSequence, Terminate, Delay, Nothing, Unknown, Unfit}
-use Rattle.sequence.specs.declared.Header.the-variants.{Repeats, Fault}
-use Rattle.sequence.specs.Text.{headerRows, headerPlace, headerOf, commandAt}
+use Rattle.sequence.specs.declared.Header.the-variants.{Repeats, Bad}
+use Rattle.sequence.specs.Text.{fault, headerRows, headerPlace, headerOf, commandAt}
 use Rattle.sequence.specs.Raster.{rasterAt}
 use Rattle.sequence.specs.Env.{Env}
 use Rattle.runner.specs.declared.Runner.{Runner}
@@ -26,7 +27,6 @@ use Rattle.runner.specs.declared.Act.{Act}
 use Rattle.runner.specs.declared.Act.the-variants.{Refused, Opens, Exposes, Loops, Waits, Calls, Ends}
 use Rattle.runner.specs.Judge.{pathRows, rasterRows, runRows, exposeRows, loopRows, closeRows, unless, judged, judge}
 use Rattle.runner.specs.Step.{openOf, aborted, enteredBy, entered, begun, advances, exposed, looped, delayed, called, ended, act, stepIn}
-use Rattle.survey.proofs.Names.{choice}
 use Rattle.promises.specs.Runs.{isA, quiet}
 use Rattle.promises.specs.Demand2.{advanceRows, callRows, commandRows, rowsOfStep, faultPlace}
 
@@ -34,14 +34,10 @@ use Rattle.promises.specs.Demand2.{advanceRows, callRows, commandRows, r
 abbrev pub works : Event → Bool
 works e = quiet e && not (isA 0 e)
 
-and-true : (a b : Bool) → T (a && b) → (a ≡ true) × T b
-and-true true b p = (refl, p)
-and-true false b p = absurd p
-
 -- a code decides what a step from s comes to
 pub record Decides (code : ℕ) (place : ℕ → ℕ) (s : Runner) (r : Stepped) : Type 0 where
   pub obeyed : code ≡ 0 → works (r .event) ≡ true
-  pub refused : 0 < code → r ≡ aborted code (place code) s
+  pub refused : 0 < code → r ≡ aborted (fault code (place code)) s
 
 -- the first code of two tables, one after the other
 one-more : (b : Bool) (c k k′ more : ℕ) → 0 < c → k′ ≡ cond (eqb k 0) more k → cond b c k′ ≡ cond (eqb (cond b c k) 0) more (cond b c k)
@@ -51,7 +47,7 @@ one-more false c k k′ more h e = e
 first-append : (rs more : List Row) → T (coded rs) → firstCode (rs ++ more) ≡ cond (eqb (firstCode rs) 0) (firstCode more) (firstCode rs)
 first-append [] more t = refl
 first-append (r ∷ rs) more t =
-    let (h, q) = and-true (ltb 0 (r .code)) (coded rs) t in
+    let (h, q) = and-T (ltb 0 (r .code)) (coded rs) t in
     one-more (r .holds) (r .code) (firstCode rs) (firstCode (rs ++ more)) (firstCode more) (ltb-true 0 (r .code) h) (first-append rs more q)
 
 -- either answer of a test works
@@ -63,25 +59,25 @@ module _ (place : ℕ → ℕ) (s : Runner) where
   at-work : (r : Stepped) → works (r .event) ≡ true → Decides 0 place s r
   at-work r w = record { obeyed = λ _. w; refused = λ h. absurd (omega arith) }
 
-  at-fault : (k : ℕ) → 0 < k → Decides k place s (aborted k (place k) s)
+  at-fault : (k : ℕ) → 0 < k → Decides k place s (aborted (fault k (place k)) s)
   at-fault k h = record { obeyed = λ z. absurd (omega arith); refused = λ _. refl }
 
   -- a fault that a test finds, after another test went one way
   if-both : (a b : Bool) (k : ℕ) (x y : Stepped) → 0 < k → works (x .event) ≡ true → works (y .event) ≡ true
-      → Decides (cond (a && b) k 0) place s (cond a (cond b (aborted k (place k) s) x) y)
+      → Decides (cond (a && b) k 0) place s (cond a (cond b (aborted (fault k (place k)) s) x) y)
   if-both true true k x y h v w = at-fault k h
   if-both true false k x y h v w = at-work x v
   if-both false b k x y h v w = at-work y w
 
   if-not : (a b : Bool) (k : ℕ) (x y : Stepped) → 0 < k → works (x .event) ≡ true → works (y .event) ≡ true
-      → Decides (cond (not a && b) k 0) place s (cond a x (cond b (aborted k (place k) s) y))
+      → Decides (cond (not a && b) k 0) place s (cond a x (cond b (aborted (fault k (place k)) s) y))
   if-not true b k x y h v w = at-work x v
   if-not false true k x y h v w = at-fault k h
   if-not false false k x y h v w = at-work y w
 
 module _ (E : Env) (text : List ℕ) (s : Runner) where
   abbrev does : Act → Stepped
-  does a = act (E .last) text s a
+  does a = act (E .format) text s a
 
   abbrev DecidesAct : ℕ → Act → Type 0
   DecidesAct code a = Decides code (λ _. s .place) s (does a)
@@ -104,7 +100,7 @@ module _ (E : Env) (text : List ℕ) (s : Runner) where
   -- ── the acts
   loops-work : (t : ℕ) → works (does (Loops t) .event) ≡ true
   unfolding act looped
-  loops-work t = either (ltb 1 (s .passes)) _ _ refl (either (ltb 1 (s .repeats)) _ _ refl refl)
+  loops-work t = either (ltb 1 (s .raster .passes)) _ _ refl (either (ltb 1 (s .raster .repeats)) _ _ refl refl)
 
   ends-work : works (does Ends .event) ≡ true
   unfolding act ended
@@ -114,37 +110,37 @@ module _ (E : Env) (text : List ℕ) (s : Runner) where
   unfolding act begun
   opens-work = refl
 
-  exposes-decide : (r : Place) → DecidesAct (firstCode (advanceRows text s (Open r 0))) (Exposes r)
+  exposes-decide : (r : Place) → DecidesAct (firstCode (advanceRows text s (Open r 0 0))) (Exposes r)
   unfolding act exposed
   exposes-decide r = if-both (λ _. s .place) s (advances (rasterAt text (r .0)) s) (ltb 2400 (s .mirror + rasterAt text (r .0) .step)) 14 _ _ (omega arith) refl refl
 
-  calls-decide : (n : ℕ) → DecidesAct (firstCode (callRows E s n)) (Calls n)
+  calls-decide : (n : ℕ) → DecidesAct (firstCode (callRows (E .format) s n)) (Calls n)
   unfolding act called
-  calls-decide n = if-not (λ _. s .place) s (ltb 1 (s .rounds)) (ltb (E .last) n) 4 _ _ (omega arith) refl refl
+  calls-decide n = if-not (λ _. s .place) s (ltb 1 (s .rounds)) (ltb (E .format .last) n) 4 _ _ (omega arith) refl refl
 
   -- ── the commands
   expose-coded : (time : ℕ) (o : Opened) → T (coded (exposeRows text time o ++ advanceRows text s o))
   unfolding exposeRows
   expose-coded time Shut = tt
-  expose-coded time (Open r c) = tt
+  expose-coded time (Open r c n) = tt
 
   loop-coded : (t : ℕ) (o : Opened) → T (coded (loopRows text (s .place) t o))
   unfolding loopRows
   loop-coded t Shut = tt
-  loop-coded t (Open r c) = tt
+  loop-coded t (Open r c n) = tt
 
-  expose-decides : (time : ℕ) (o : Opened) → DecidesAct (firstCode (exposeRows text time o ++ advanceRows text s o)) (judged E text (s .place) o (Expose time))
+  expose-decides : (time : ℕ) (o : Opened) → DecidesAct (firstCode (exposeRows text time o ++ advanceRows text s o)) (judged (E .cards) text (s .place) o (Expose time))
   unfolding judged exposeRows act
   expose-decides time Shut = at-fault (λ _. s .place) s 3 (omega arith)
-  expose-decides time (Open r c) = by-rows (exposeRows text time (Open r c)) (advanceRows text s (Open r c)) (Exposes r) tt (exposes-decide r)
+  expose-decides time (Open r c n) = by-rows (exposeRows text time (Open r c n)) (advanceRows text s (Open r c n)) (Exposes r) tt (exposes-decide r)
 
-  command-decides : (k : Command) → DecidesAct (firstCode (commandRows E text s k)) (judged E text (s .place) (openOf s) k)
+  command-decides : (k : Command) → DecidesAct (firstCode (commandRows E text s k)) (judged (E .cards) text (s .place) (openOf (E .format) s) k)
   unfolding judged runRows rasterRows pathRows closeRows act delayed
-  command-decides RunRaster = by-these (runRows E text (s .place) (openOf s)) Opens tt opens-work
-  command-decides (Expose time) = expose-decides time (openOf s)
-  command-decides (LoopBack t) = by-these (loopRows text (s .place) t (openOf s)) (Loops t) (loop-coded t (openOf s)) (loops-work t)
-  command-decides (CallSequence n) = by-rows (closeRows text (s .place) (openOf s)) (callRows E s n) (Calls n) tt (calls-decide n)
-  command-decides Terminate = by-these (closeRows text (s .place) (openOf s)) Ends tt ends-work
+  command-decides RunRaster = by-these (runRows (E .cards) text (s .place) (openOf (E .format) s)) Opens tt opens-work
+  command-decides (Expose time) = expose-decides time (openOf (E .format) s)
+  command-decides (LoopBack t) = by-these (loopRows text (s .place) t (openOf (E .format) s)) (Loops t) (loop-coded t (openOf (E .format) s)) (loops-work t)
+  command-decides (CallSequence n) = by-rows (closeRows text (s .place) (openOf (E .format) s)) (callRows (E .format) s n) (Calls n) tt (calls-decide n)
+  command-decides Terminate = by-these (closeRows text (s .place) (openOf (E .format) s)) Ends tt ends-work
   command-decides (Delay time) = at-work (λ _. s .place) s (does Waits) refl
   command-decides Nothing = at-fault (λ _. s .place) s 3 (omega arith)
   command-decides Unknown = at-fault (λ _. s .place) s 3 (omega arith)
@@ -155,7 +151,7 @@ module _ (E : Env) (text : List ℕ) (s : Runner) where
   unfolding entered headerOf
   enter-decides = go (firstCode (headerRows text)) (eqb (firstCode (headerRows text)) 0) refl
     where
-      go : (k : ℕ) (b : Bool) → eqb k 0 ≡ b → Decides k headerPlace s (enteredBy s (cond b (Repeats (byteAt text 3)) (Fault k (headerPlace k))))
+      go : (k : ℕ) (b : Bool) → eqb k 0 ≡ b → Decides k headerPlace s (enteredBy s (cond b (Repeats (byteAt text 3)) (Bad (fault k (headerPlace k)))))
       go k true e = record { obeyed = λ _. refl; refused = λ h. absurd (omega (arith, eqb-true k 0 e)) }
       go k false e = record { obeyed = λ z. absurd (eqb-false k 0 e z); refused = λ _. refl }
 
@@ -164,7 +160,7 @@ module _ (E : Env) (text : List ℕ) (s : Runner) where
   step-decides = go (s .entering)
     where
       go : (b : Bool) → Decides (firstCode (cond b (headerRows text) (commandRows E text s (commandAt text (s .place))))) (λ c. cond b (headerPlace c) (s .place)) s
-          (cond b (entered text s) (act (E .last) text s (judged E text (s .place) (openOf s) (commandAt text (s .place)))))
+          (cond b (entered text s) (act (E .format) text s (judged (E .cards) text (s .place) (openOf (E .format) s) (commandAt text (s .place)))))
       go true = enter-decides
       go false = command-decides (commandAt text (s .place))
 
@@ -172,8 +168,8 @@ module _ (E : Env) (text : List ℕ) (s : Runner) where
   command-coded : (k : Command) → T (coded (commandRows E text s k))
   unfolding runRows rasterRows pathRows closeRows
   command-coded RunRaster = tt
-  command-coded (Expose time) = expose-coded time (openOf s)
-  command-coded (LoopBack t) = loop-coded t (openOf s)
+  command-coded (Expose time) = expose-coded time (openOf (E .format) s)
+  command-coded (LoopBack t) = loop-coded t (openOf (E .format) s)
   command-coded (CallSequence n) = tt
   command-coded Terminate = tt
   command-coded (Delay time) = tt

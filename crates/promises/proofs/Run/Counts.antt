@@ -112,9 +112,9 @@ positions-in-reach {raster} g k h =
     0 (raster .loops) (omega arith)
 
 -- no position of a raster that no row refuses is past the end stop
-pub none-past-stop : (E : Env) (raster : RasterWords) → firstCode (rasterRows E raster) ≡ 0 → (k : ℕ) → k < raster .repeats → NonePast 2400 (positions raster k)
+pub none-past-stop : (E : Env) (raster : RasterWords) (begun : ℕ) → firstCode (rasterRows (E .cards) raster begun) ≡ 0 → (k : ℕ) → k < raster .repeats → NonePast 2400 (positions raster k)
 unfolding rasterRows pathRows
-none-past-stop E raster e k h = positions-in-reach (sound E raster (none-holds (rasterRows E raster) tt e)) k h
+none-past-stop E raster begun e k h = positions-in-reach (sound E raster begun (none-holds (rasterRows (E .cards) raster begun) tt e)) k h
 
 body-in-reach : {E : Env} {text : List ℕ} {p e : ℕ} {items : List Item} {closing : Closing} → Body E text p items (closed e closing) → NonePast 2400 (positionsOf text items)
 body-in-reach (closes closing j) = tt

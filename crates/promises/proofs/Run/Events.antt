@@ -5,11 +5,12 @@ use mathlib.Core.Bool.{Bool, true, cond, _||_, false≢true}
 use mathlib.Core.Logic.{inl, inr}
 use lib.Dec.{eqb}
 use lib.ListN.{getD}
+use Rattle.sequence.specs.Text.{fault}
 use Rattle.runner.specs.declared.Event.{Event}
 use Rattle.runner.specs.declared.Event.the-variants.{Idle, Enter, Raster, Exp, Loop, Next, Done, Wait, Call, End, Abort}
 use Rattle.runner.specs.Events.{Shown, shownAs}
 use Rattle.survey.specs.declared.Ending.{Ending}
-use Rattle.survey.specs.declared.Ending.the-variants.{Unlisted, Finishes, Returns, Faulty}
+use Rattle.survey.specs.declared.Ending.the-variants.{Unlisted, Finishes, Returns, Faults}
 use Rattle.survey.specs.Report.{EndingShown, endingShown}
 use Rattle.unit.specs.declared.Outcome.{Outcome}
 use Rattle.unit.specs.declared.Outcome.the-variants.{Denied, Saw}
@@ -49,14 +50,14 @@ outcome-shown (Saw e) seen h k = ap Saw (event-shown e seen h k)
 
 -- ── endings
 endingOf : EndingShown → Ending
-endingOf x = cond (eqb (x .number) 0) (Unlisted (x .code)) (cond (eqb (x .number) 1) Finishes (cond (eqb (x .number) 2) Returns (Faulty (x .code) (x .sequence) (x .place))))
+endingOf x = cond (eqb (x .number) 0) (Unlisted (x .code)) (cond (eqb (x .number) 1) Finishes (cond (eqb (x .number) 2) Returns (Faults (x .sequence) (fault (x .code) (x .place)))))
 
 ending-back : (e : Ending) → endingOf (endingShown e) ≡ e
 unfolding endingOf
 ending-back (Unlisted code) = refl
 ending-back Finishes = refl
 ending-back Returns = refl
-ending-back (Faulty code n place) = refl
+ending-back (Faults n f) = refl
 
 pub ends-so : {e : Ending} → Ends e → e ≡ Finishes
 unfolding endingOf
@@ -66,7 +67,7 @@ pub back-so : {e : Ending} → ComesBack e → e ≡ Returns
 unfolding endingOf
 back-so {e} h = sym (ending-back e) ∙ ap endingOf h
 
-pub fault-so : {e : Ending} {code n place : ℕ} → HasFault code n place e → e ≡ Faulty code n place
+pub fault-so : {e : Ending} {code n place : ℕ} → HasFault code n place e → e ≡ Faults n (fault code place)
 unfolding endingOf
 fault-so {e} h = sym (ending-back e) ∙ ap endingOf h
 
@@ -78,4 +79,4 @@ pub so-passed : (e : Ending) → IsPassed e → EndsOrReturns e
 so-passed (Unlisted code) y = absurd y
 so-passed Finishes y = inl refl
 so-passed Returns y = inr refl
-so-passed (Faulty code n place) y = absurd y
+so-passed (Faults n f) y = absurd y

@@ -6,8 +6,10 @@ use mathlib.Core.Path.{_≡_, refl, sym, ap, subst, _∙_}
 use mathlib.Core.Bool.{Bool, true, false, false≢true}
 use mathlib.Core.List.{List}
 use Rattle.octets.specs.Rows.{Row, firstCode}
+use Rattle.octets.proofs.Bools.{and-both}
+use Rattle.sequence.specs.declared.Fault.{Fault}
+use Rattle.sequence.specs.Text.{fault}
 use Rattle.sequence.specs.Env.{Env, textOf}
-use Rattle.sequence.proofs.Laws.{and-both}
 use Rattle.runner.specs.declared.Runner.{Runner}
 use Rattle.runner.specs.declared.Stepped.{Stepped}
 use Rattle.runner.specs.declared.Event.the-variants.{Idle, Abort}
@@ -26,7 +28,7 @@ pub record Faulted (code : ℕ) (place : ℕ → ℕ) (s : Runner) (r : Stepped)
   pub decision : code ≡ c
   pub sequence : n ≡ s .sequence
   pub here : p ≡ place c
-  pub whole : r ≡ aborted c p s
+  pub whole : r ≡ aborted (fault c p) s
 
 module _ {place : ℕ → ℕ} {s : Runner} {r : Stepped} where
   not-idle : (code : ℕ) → Decides code place s r → r .event ≡ Idle → ⊥
@@ -53,9 +55,9 @@ module _ {place : ℕ → ℕ} {s : Runner} {r : Stepped} where
   faulted (suc k) c n p d a =
       let e = d .refused (omega arith) in
       let f : Abort (suc k) (s .sequence) (place (suc k)) ≡ Abort c n p = sym (ap (λ (x : Stepped). x .event) e) ∙ a in
-      let g : suc k ≡ c = cc in
-      let h : place (suc k) ≡ p = cc in
-      record { decision = g; sequence = cc; here = sym h ∙ ap place g; whole = e ∙ (λ i. aborted (g i) (h i) s) }
+      let w : fault (suc k) (place (suc k)) ≡ fault c p = cc in
+      let g = ap (λ (x : Fault). x .code) w in
+      record { decision = g; sequence = cc; here = sym (ap (λ (x : Fault). x .place) w) ∙ ap place g; whole = e ∙ ap (λ (x : Fault). aborted x s) w }
 
 module _ (E : Env) (seqs : List ℕ) (s : Runner) where
   abbrev rows : List Row

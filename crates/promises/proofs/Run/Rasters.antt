@@ -3,15 +3,17 @@
 use Prim.Native.Nat.{ℕ, zero, suc, _+_, _*_, _-_, _≤_, _<_}
 use native.Mathlib.Omega.{arith}
 use mathlib.Core.Path.{_≡_, refl, ap, subst}
-use mathlib.Core.Bool.{Bool, true, false, _&&_}
+use mathlib.Core.Bool.{Bool, true, false, _&&_, and-false}
 use mathlib.Core.List.{List, [], _∷_}
 use lib.Dec.{ltb, eqb}
 use borrow.Author.Tests.{lt-ltb, eq-eqb, ne-eqb, ltb-true}
-use Rattle.memory.specs.Memory.{placeAt}
+use Rattle.octets.proofs.Bools.{and-both}
+use Rattle.memory.specs.Memory.{Fair, placeAt}
 use Rattle.sequence.specs.declared.RasterWords.{RasterWords}
 use Rattle.sequence.specs.Text.{sizeAt}
 use Rattle.sequence.specs.Raster.{rasterAt, startOf}
 use Rattle.sequence.specs.Env.{Env, textOf}
+use Rattle.runner.specs.declared.OpenRaster.{OpenRaster}
 use Rattle.runner.specs.declared.Runner.{Runner}
 use Rattle.runner.specs.declared.Event.the-variants.{Raster, Exp}
 use Rattle.runner.specs.declared.Opened.the-variants.{Open}
@@ -20,27 +22,18 @@ use Rattle.runner.specs.Judge.{setOf, judge}
 use Rattle.runner.specs.Step.{to, stepOf}
 use Rattle.survey.specs.declared.Item.the-variants.{Scan}
 use Rattle.survey.specs.Turns.{turns}
-use Rattle.promises.specs.Range.{Fair}
 use Rattle.promises.specs.Runs.{Run, done, more}
-use Rattle.promises.proofs.Run.Steps.{Left, left, on, out, held-at, step-waits, step-opens, step-again, step-stays, step-moves, step-loops, step-next, step-done}
+use Rattle.promises.proofs.Run.Steps.{openRaster, on, out, held-at, step-waits, step-opens, step-again, step-stays, step-moves, step-loops, step-next, step-done}
 use Rattle.promises.proofs.Text.Sound.{Sound, set-some}
-use Rattle.promises.proofs.Text.Rules.{opens-sound, opens-repeat, opens-place, waits-byte, exposes-byte}
+use Rattle.promises.proofs.Text.Rules.{opens-sound, opens-repeat, RasterPlace, opens-place, waits-byte, exposes-byte}
 use Rattle.promises.proofs.Run.Sights.{mirrorIn, lineSights, backSight, passStart, passSights, passesSights, repeatSights, itemSights, lastPass, itemEnd}
 use Rattle.promises.proofs.Text.Lines.{Line, stop, delay, expose, Whole}
 use Rattle.promises.proofs.Run.Runs.{one, _▸_, run-turns}
 
 -- ── the mirror in a pass
-and-off : (a b : Bool) → b ≡ false → (a && b) ≡ false
-and-off true b e = e
-and-off false b e = refl
-
-and-first : (a b : Bool) → (a && b) ≡ true → a ≡ true
-and-first true b e = refl
-and-first false b e = e
-
 module _ (raster : RasterWords) where
   pub mirror-below : (again : Bool) (m c : ℕ) → c < setOf raster → mirrorIn raster again m c ≡ m
-  mirror-below again m c h = rw (and-off again (eqb c (setOf raster)) (ne-eqb c (setOf raster) (λ e. omega arith)))
+  mirror-below again m c h = rw (ne-eqb c (setOf raster) (λ e. omega arith), and-false again)
 
   mirror-full : (ps m : ℕ) → 1 < ps → mirrorIn raster (ltb 1 ps) m (setOf raster) ≡ m + raster .step
   mirror-full ps m h = rw (lt-ltb 1 ps h, eq-eqb (setOf raster) (setOf raster) refl)
@@ -63,19 +56,19 @@ module _ (E : Env) (seqs : List ℕ) (n : ℕ) where
   text = textOf E seqs n
 
   -- ── a line of the raster at r
-  module _ (r : ℕ) (inside : r < 128) where
+  module _ (r : ℕ) (inside : RasterPlace (E .format) r) where
     abbrev raster : RasterWords
     raster = rasterAt text r
 
     -- an exposure, in a pass that began at m
-    step-exposes : (p c ps rs m q : ℕ) → judge E text p (Open (placeAt r) c) ≡ Exposes (placeAt r) → c < setOf raster → (1 < ps → m + raster .step ≤ 2400)
+    step-exposes : (p c ps rs m q : ℕ) → judge (E .cards) text p (Open (placeAt r) c rs) ≡ Exposes (placeAt r) → c < setOf raster → (1 < ps → m + raster .step ≤ 2400)
         → stepOf E seqs (on n p r c ps rs (mirrorIn raster (ltb 1 ps) m c) q)
         ≡ to (Exp m) (on n (p + sizeAt text p) r (c + 1) ps rs (mirrorIn raster (ltb 1 ps) m (c + 1)) q)
     step-exposes p c ps rs m q j h b = rw (mirror-below raster (ltb 1 ps) m c h) (go (ltb 1 ps && eqb (c + 1) (setOf raster)) refl)
       where
         go : (t : Bool) → (ltb 1 ps && eqb (c + 1) (setOf raster)) ≡ t
             → stepOf E seqs (on n p r c ps rs m q) ≡ to (Exp m) (on n (p + sizeAt text p) r (c + 1) ps rs (mirrorIn raster (ltb 1 ps) m (c + 1)) q)
-        go true e = rw e (step-moves E seqs n p r c ps rs m q inside j e (b (ltb-true 1 ps (and-first (ltb 1 ps) (eqb (c + 1) (setOf raster)) e))))
+        go true e = rw e (step-moves E seqs n p r c ps rs m q inside j e (b (ltb-true 1 ps (and-both (ltb 1 ps) (eqb (c + 1) (setOf raster)) e .0))))
         go false e = rw e (step-stays E seqs n p r c ps rs m q inside j e)
 
     pub line-run : {p c len p′ c′ : ℕ} → Line E text r p c len p′ c′ → (ps rs m q : ℕ) → (1 < ps → m + raster .step ≤ 2400)
@@ -83,11 +76,11 @@ module _ (E : Env) (seqs : List ℕ) (n : ℕ) where
         (on n p′ r c′ ps rs (mirrorIn raster (ltb 1 ps) m c′) q)
     line-run stop ps rs m q b = done
     line-run (delay {p} {c} j l) ps rs m q b =
-        rw (waits-byte E text p (Open (placeAt r) c) j)
-        (more (step-waits E seqs n p r c ps rs (mirrorIn raster (ltb 1 ps) m c) q (held-at r c inside) j) refl (line-run l ps rs m q b))
+        rw (waits-byte E text p _ (j rs))
+        (more (step-waits E seqs n p r c ps rs (mirrorIn raster (ltb 1 ps) m c) q (held-at (E .format) r c ps rs inside) (j rs)) refl (line-run l ps rs m q b))
     line-run (expose {p} {c} j h l) ps rs m q b =
-        rw (exposes-byte E text p (Open (placeAt r) c) (placeAt r) j)
-        (more (step-exposes p c ps rs m q j h b) refl (line-run l ps rs m q b))
+        rw (exposes-byte E text p _ (placeAt r) (j rs))
+        (more (step-exposes p c ps rs m q (j rs) h b) refl (line-run l ps rs m q b))
 
     -- from the end of a run raster that begins repeat k
     pub first-line : {len p′ c′ : ℕ} → Sound raster → Line E text r (r + sizeAt text r) 0 len p′ c′ → (k rs q : ℕ) → k < raster .repeats
@@ -99,19 +92,19 @@ module _ (E : Env) (seqs : List ℕ) (n : ℕ) where
         (line-run l (raster .loops) rs (startOf raster k) q (first-in-reach g k h))
 
   -- ── a whole raster
-  module _ (fair : Fair E) {p t b before from : ℕ} (R : Whole E text p t b before from) where
+  module _ (fair : Fair (E .format)) {p t b before from : ℕ} (R : Whole E text p t b before from) where
     abbrev words : RasterWords
     words = rasterAt text p
 
-    inside : p < 128
-    inside = opens-place fair seqs n p (R .run)
+    inside : RasterPlace (E .format) p
+    inside = opens-place E seqs n p fair (R .run)
 
     fit : Sound words
     fit = opens-sound E text p (R .run)
 
     -- after the last pass of repeat k, with r repeats to come
     abbrev repeated : ℕ → ℕ → ℕ → Runner
-    repeated q k zero = out n (b + sizeAt text b) (left (setOf words) 1 1) (lastPass words k) q
+    repeated q k zero = out n (b + sizeAt text b) (openRaster p (setOf words) 1 1) (lastPass words k) q
     repeated q k (suc r) = on n p p (setOf words) 1 (suc r) (lastPass words k) q
 
     -- before pass j of repeat k, with l passes and r repeats to come
@@ -121,10 +114,10 @@ module _ (E : Env) (seqs : List ℕ) (n : ℕ) where
 
     -- the loop back of the last pass
     last-back : (q k r : ℕ) → Run E seqs (on n b p (setOf words) 1 (suc r) (lastPass words k) q) (backSight text n words p t b r 0 (lastPass words k) ∷ []) (repeated q k r)
-    last-back q k zero = one (step-done E seqs n b p (setOf words) 1 1 (lastPass words k) q inside (R .loops) (omega arith) (omega arith)) refl
+    last-back q k zero = one (step-done E seqs n b p (setOf words) 1 1 (lastPass words k) q inside (R .loops 1) (omega arith) (omega arith)) refl
     last-back q k (suc r) =
         let v : suc (suc r) - 1 ≡ suc r = omega arith in
-        one (rw v at (step-next E seqs n b p (setOf words) 1 (suc (suc r)) (lastPass words k) q inside (R .loops) (omega arith) (omega arith))) refl
+        one (rw v at (step-next E seqs n b p (setOf words) 1 (suc (suc r)) (lastPass words k) q inside (R .loops (suc (suc r))) (omega arith) (omega arith))) refl
 
     pass-run : (q k r : ℕ) → k < words .repeats → (j l : ℕ) → j + suc l ≡ words .loops
         → Run E seqs (passing q k r j (suc l)) (passSights text n words p t b from k r j l) (passing q k r (suc j) l)
@@ -138,7 +131,7 @@ module _ (E : Env) (seqs : List ℕ) (n : ℕ) where
         let u : passStart words k (suc j) ≡ m + words .step = omega arith in
         rw (mirror-below words (ltb 1 (suc (suc l))) m 0 (set-some fit), mirror-full words (suc (suc l)) m (omega arith)) at
         (line-run p inside (R .again) (suc (suc l)) (suc r) m q (λ z. next-in-reach fit k j h (omega arith)))
-        ▸ rw u (one (rw v at (step-loops E seqs n b p (setOf words) (suc (suc l)) (suc r) (m + words .step) q inside (R .loops) (omega arith))) refl)
+        ▸ rw u (one (rw v at (step-loops E seqs n b p (setOf words) (suc (suc l)) (suc r) (m + words .step) q inside (R .loops (suc r)) (omega arith))) refl)
 
     passing-first : (q k r L : ℕ) → 0 < L → passing q k r 0 L ≡ on n t p 0 L (suc r) (startOf words k) q
     passing-first q k r zero h = absurd (omega arith)
@@ -153,11 +146,11 @@ module _ (E : Env) (seqs : List ℕ) (n : ℕ) where
         (run-turns (passing q k r) (passSights text n words p t b from k r) (words .loops) (pass-run q k r h) 0 (words .loops) (omega arith))
 
     -- before repeat k, with r repeats to come; d, m: what the runner held and where the mirror was at first
-    abbrev repeating : Left → ℕ → ℕ → ℕ → ℕ → Runner
+    abbrev repeating : OpenRaster → ℕ → ℕ → ℕ → ℕ → Runner
     repeating d m q zero r = out n p d m q
     repeating d m q (suc k) r = repeated q k r
 
-    repeat-run : (d : Left) (m q k r : ℕ) → k + suc r ≡ words .repeats
+    repeat-run : (d : OpenRaster) (m q k r : ℕ) → k + suc r ≡ words .repeats
         → Run E seqs (repeating d m q k (suc r)) (repeatSights text n words p t b before from k r) (repeating d m q (suc k) r)
     repeat-run d m q zero r e =
         let v : suc r ≡ words .repeats = omega arith in
@@ -169,12 +162,12 @@ module _ (E : Env) (seqs : List ℕ) (n : ℕ) where
         more
         (subst (λ (x : ℕ). stepOf E seqs (on n p p (setOf words) 1 (suc r) (lastPass words k) q)
         ≡ to (Raster (words .id) (startOf words x) (words .list)) (on n (p + sizeAt text p) p 0 (words .loops) (suc r) (startOf words x) q)) v
-        (step-again E seqs n p (setOf words) 1 (suc r) (lastPass words k) q inside (opens-repeat E text p (setOf words) (R .run))))
+        (step-again E seqs n p (setOf words) 1 (suc r) (lastPass words k) q inside (opens-repeat E text p (setOf words) (suc r) (R .run))))
         refl (passes-run q (suc k) r (omega arith))
 
-    pub raster-run : (d : Left) (m q : ℕ)
+    pub raster-run : (d : OpenRaster) (m q : ℕ)
         → Run E seqs (out n p d m q) (itemSights text n (Scan p t b before from) m)
-        (out n (b + sizeAt text b) (left (setOf words) 1 1) (itemEnd text (Scan p t b before from) m) q)
+        (out n (b + sizeAt text b) (openRaster p (setOf words) 1 1) (itemEnd text (Scan p t b before from) m) q)
     raster-run d m q =
         let g = fit .repeats in
         let e : words .repeats ≡ suc (words .repeats - 1) = omega arith in

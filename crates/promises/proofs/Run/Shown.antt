@@ -16,7 +16,6 @@ use Rattle.sequence.specs.Env.{Env}
 use Rattle.runner.specs.declared.Sight.{Sight}
 use Rattle.runner.specs.declared.Event.{Event}
 use Rattle.runner.specs.declared.Event.the-variants.{Enter, Raster, Exp, Loop, Next, Done, Wait, Call, End}
-use Rattle.runner.specs.declared.Opened.the-variants.{Open}
 use Rattle.runner.specs.Judge.{setOf}
 use Rattle.survey.specs.declared.Item.{Item}
 use Rattle.survey.specs.declared.Item.the-variants.{Pause, Scan}
@@ -88,10 +87,10 @@ module _ {A : Type 0} (f : Event → List A) where
       line-shown stop = (0, omega arith, refl)
       line-shown (delay {p} {c} j l) =
           let (k, e, s) = line-shown l in
-          (k, e, rw (waits-byte E text p (Open (placeAt r) c) j, blind .wait (wordAt text (p + 1))) s)
+          (k, e, rw (waits-byte E text p _ (j 0), blind .wait (wordAt text (p + 1))) s)
       line-shown (expose {p} {c} j h l) =
           let (k, e, s) = line-shown l in
-          (suc k, omega arith, rw (exposes-byte E text p (Open (placeAt r) c) (placeAt r) j) (ap (λ (x : List A). f (Exp m) ++ x) s))
+          (suc k, omega arith, rw (exposes-byte E text p _ (placeAt r) (j 0)) (ap (λ (x : List A). f (Exp m) ++ x) s))
 
       line-from : {p len p′ c′ : ℕ} → Line E text r p 0 len p′ c′ → shown (lineSights text n raster again m len p 0) ≡ shots (replicate c′ m)
       line-from {c′} l =

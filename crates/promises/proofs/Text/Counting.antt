@@ -17,7 +17,8 @@ use Rattle.survey.specs.declared.Item.{Item}
 use Rattle.survey.specs.declared.Item.the-variants.{Pause, Scan}
 use Rattle.survey.specs.declared.Closing.{Closing}
 use Rattle.survey.specs.Items.{stepsOf, exposuresOf}
-use Rattle.promises.specs.EachCheck.{count, outside, loopBackOf, targetOf, stepsOfRaster, stepsOfRasters, exposuresOfRasters, stepsOfSequence, exposuresOfSequence}
+use Rattle.survey.specs.Walk.{count}
+use Rattle.promises.specs.EachCheck.{outside, loopBackOf, targetOf, stepsOfRaster, stepsOfRasters, exposuresOfRasters, stepsOfSequence, exposuresOfSequence}
 use Rattle.promises.proofs.Text.Lines.{closed, Body}
 use Rattle.promises.proofs.Text.TextOrder.{Each, each-map, Within, Order, last, pause, raster, text-order, scansOf, rasters-of}
 

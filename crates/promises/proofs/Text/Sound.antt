@@ -4,18 +4,18 @@ use Prim.Native.Nat.{ℕ, _≤_, _<_}
 use native.Mathlib.Omega.{arith}
 use mathlib.Core.Path.{_≡_, refl}
 use mathlib.Core.Bool.{Bool, true, false, cond, _&&_}
-use mathlib.Core.List.{List, [], _∷_}
+use mathlib.Core.List.{List, [], _∷_, _++_}
 use lib.Dec.{T, leb, eqb}
 use borrow.Author.Tests.{ltb-false, leb-true, eqb-true, eqb-false, le-leb}
 use Rattle.octets.specs.Rows.{Row, firstCode, NoneHolds, coded}
-use Rattle.octets.proofs.Laws.{none-holds}
+use Rattle.octets.proofs.Laws.{none-holds, none-split}
+use Rattle.octets.proofs.Bools.{and-both, or-neither}
 use Rattle.sequence.specs.declared.RasterWords.{RasterWords}
-use Rattle.sequence.specs.Raster.{startOf, reachOf}
+use Rattle.sequence.specs.Raster.{startOf, reachOf, somePast}
 use Rattle.sequence.specs.Env.{Env}
-use Rattle.sequence.proofs.Laws.{and-both}
 use Rattle.runner.specs.declared.Act.{Act}
 use Rattle.runner.specs.declared.Act.the-variants.{Refused}
-use Rattle.runner.specs.Judge.{setOf, pathRows, rasterRows, unless}
+use Rattle.runner.specs.Judge.{setOf, countRows, listRows, pathRows, flagRows, rasterRows, unless}
 
 -- ── codes
 -- every row bears a code up to 15, as the status block has room for
@@ -56,17 +56,20 @@ pub record Sound (raster : RasterWords) : Type 0 where
   pub starts : (k : ℕ) → startOf raster k ≤ 2400
   pub reaches : (k : ℕ) → k < raster .repeats → reachOf raster k ≤ 2400
 
-pub sound : (E : Env) (raster : RasterWords) → NoneHolds (rasterRows E raster) → Sound raster
+pub sound : (E : Env) (raster : RasterWords) (begun : ℕ) → NoneHolds (rasterRows (E .cards) raster begun) → Sound raster
 unfolding rasterRows pathRows
-sound E raster h =
+sound E raster begun h =
+    let (counts, rest) = none-split (countRows raster) (listRows (E .cards) raster ++ (pathRows raster begun ++ flagRows raster)) h in
+    let (list, more) = none-split (listRows (E .cards) raster) (pathRows raster begun ++ flagRows raster) rest in
+    let path = none-split (pathRows raster begun) (flagRows raster) more .0 in
     record {
-      loops = omega (arith, eqb-false (raster .loops) 0 (h .0));
-      repeats = omega (arith, eqb-false (raster .repeats) 0 (h .1 .0));
-      some = omega (arith, eqb-false (raster .exposures) 0 (h .1 .1 .0));
-      most = ltb-false 8 (raster .exposures) (h .1 .1 .1 .0);
-      list = ltb-false 47 (raster .list) (h .1 .1 .1 .1 .0);
-      starts = λ k. ltb-false 2400 (raster .initial) (h .1 .1 .1 .1 .1 .1 .0);
-      reaches = λ k l. ltb-false 2400 (reachOf raster 0) (h .1 .1 .1 .1 .1 .1 .1 .1 .0);
+      loops = omega (arith, eqb-false (raster .loops) 0 (counts .0));
+      repeats = omega (arith, eqb-false (raster .repeats) 0 (counts .1 .0));
+      some = omega (arith, eqb-false (raster .exposures) 0 (counts .1 .1 .0));
+      most = ltb-false 8 (raster .exposures) (counts .1 .1 .1 .0);
+      list = ltb-false 47 (raster .list) (list .0);
+      starts = λ k. ltb-false 2400 (raster .initial) (path .0);
+      reaches = λ k l. ltb-false 2400 (reachOf raster begun) (or-neither (somePast raster (raster .repeats)) _ (path .1 .1 .0) .1);
     }
 
 pub set-most : (raster : RasterWords) → setOf raster ≤ 8

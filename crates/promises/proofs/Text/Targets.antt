@@ -1,59 +1,50 @@
 -- A raster's line of commands splits at a good loop target: "the start of a command .. at or before this raster's first exposure".
 -- Assumes nothing.
-use Prim.Native.Nat.{ℕ, zero, suc, _+_, _≤_, _<_}
+use Prim.Native.Nat.{ℕ, suc, _+_, _≤_, _<_}
 use native.Mathlib.Omega.{arith}
-use mathlib.Core.Path.{_≡_, refl, ap}
+use mathlib.Core.Path.{_≡_, refl}
 use mathlib.Core.Bool.{true, _&&_}
 use mathlib.Core.List.{List}
 use lib.Dec.{ltb, leb}
 use lib.ListN.{length}
-use borrow.Author.Tests.{ltb-true, eqb-true, eq-eqb, ne-eqb}
+use borrow.Author.Tests.{ltb-true, eqb-true}
 use Rattle.octets.specs.Bytes.{byteAt}
+use Rattle.octets.proofs.Bools.{and-both}
 use Rattle.memory.specs.Memory.{placeAt}
 use Rattle.sequence.specs.Text.{sizeAt}
 use Rattle.sequence.specs.Starts.{startsOf, among, firstExposure, targetGood}
 use Rattle.sequence.specs.Raster.{rasterAt}
 use Rattle.sequence.specs.Env.{Env}
-use Rattle.sequence.proofs.Laws.{and-both}
 use Rattle.sequence.proofs.Hops.{Hops, here, hop, hops-le, hops-snoc, hops-from, start-hops, First, first-exposure}
-use Rattle.runner.specs.declared.Opened.the-variants.{Shut, Open}
+use Rattle.runner.specs.declared.Opened.the-variants.{Shut}
 use Rattle.runner.specs.declared.Act.the-variants.{Opens, Exposes, Waits}
 use Rattle.runner.specs.Judge.{setOf, judge}
-use Rattle.survey.specs.Walk.{between}
+use Rattle.survey.proofs.Counts.{peel}
 use Rattle.promises.proofs.Text.Rules.{waits-size, exposes-size, exposes-byte, opens-size}
-use Rattle.promises.proofs.Text.Lines.{Line, stop, delay, expose}
+use Rattle.promises.proofs.Text.Lines.{InRaster, Line, stop, delay, expose}
 
 -- ── the commands of a line
 pub line-hops : {E : Env} {text : List ℕ} {r p c len p′ c′ : ℕ} → Line E text r p c len p′ c′ → Hops text p p′ len
 line-hops stop = here
-line-hops {E} {text} {r} (delay {p} {c} j l) = hop (waits-size E text p (Open (placeAt r) c) j) (line-hops l)
-line-hops {E} {text} {r} (expose {p} {c} j h l) = hop (exposes-size E text p (Open (placeAt r) c) (placeAt r) j) (line-hops l)
+line-hops {E} {text} {r} (delay {p} {c} j l) = hop (waits-size E text p _ (j 0)) (line-hops l)
+line-hops {E} {text} {r} (expose {p} {c} j h l) = hop (exposes-size E text p _ (placeAt r) (j 0)) (line-hops l)
 
 pub line-most : {E : Env} {text : List ℕ} {r p c len p′ c′ : ℕ} → Line E text r p c len p′ c′ → c ≤ setOf (rasterAt text r) → c′ ≤ setOf (rasterAt text r)
 line-most stop h = h
 line-most (delay j l) h = line-most l h
 line-most (expose j k l) h = line-most l (omega arith)
 
-pub line-delay : {E : Env} {text : List ℕ} {r p c len p′ c′ : ℕ} → Line E text r p c len p′ c′ → judge E text p′ (Open (placeAt r) c′) ≡ Waits
+pub line-delay : {E : Env} {text : List ℕ} {r p c len p′ c′ : ℕ} → Line E text r p c len p′ c′ → InRaster E text r p′ c′ Waits
     → Line E text r p c (suc len) (p′ + sizeAt text p′) c′
 line-delay stop k = delay k stop
 line-delay (delay j l) k = delay j (line-delay l k)
 line-delay (expose j h l) k = expose j h (line-delay l k)
 
-pub line-expose : {E : Env} {text : List ℕ} {r p c len p′ c′ : ℕ} → Line E text r p c len p′ c′ → judge E text p′ (Open (placeAt r) c′) ≡ Exposes (placeAt r)
+pub line-expose : {E : Env} {text : List ℕ} {r p c len p′ c′ : ℕ} → Line E text r p c len p′ c′ → InRaster E text r p′ c′ (Exposes (placeAt r))
     → c′ < setOf (rasterAt text r) → Line E text r p c (suc len) (p′ + sizeAt text p′) (c′ + 1)
 line-expose stop k z = expose k z stop
 line-expose (delay j l) k z = delay j (line-expose l k z)
 line-expose (expose j h l) k z = expose j h (line-expose l k z)
-
-pub between-hops : {text : List ℕ} {p t n : ℕ} → Hops text p t n → (f : ℕ) → t ≤ p + f → between text f p t ≡ n
-unfolding between
-between-hops here zero l = refl
-between-hops (here {p}) (suc f) l = rw (eq-eqb p p refl)
-between-hops (hop z h) zero l = let w = hops-le h in absurd (omega arith)
-between-hops {t} (hop {p} z h) (suc f) l =
-    let w = hops-le h in
-    rw (ne-eqb p t (λ e. omega arith)) (ap suc (between-hops h f (omega arith)))
 
 -- ── the split
 pub record Split (E : Env) (text : List ℕ) (r p t q c len before : ℕ) : Type 0 where
@@ -75,12 +66,7 @@ split {E} {text} {r} {t} (delay {p} j l) z (hop y g) a b x s i f h = put (split 
     put d = record { from = d .from; first = delay j (d .first); again = d .again; joined = (let e = d .joined in omega arith) }
 split {E} {text} {r} {t} (expose {p} {c} j v l) z (hop y g) a b x s i f h =
     let w = hops-le g in
-    absurd (f .none p a s i (omega arith) y (eqb-true (byteAt text p) 0x91 (exposes-byte E text p (Open (placeAt r) c) (placeAt r) j)))
-
--- the first hop of several
-peel : {text : List ℕ} {p t k : ℕ} → Hops text p t k → p < t → (m : ℕ) × Hops text (p + sizeAt text p) t m
-peel here l = absurd (omega arith)
-peel (hop {n} z h) l = (n, h)
+    absurd (f .none p a s i (omega arith) y (eqb-true (byteAt text p) 0x91 (exposes-byte E text p _ (placeAt r) (j 0))))
 
 pub target-size : (text : List ℕ) (r q t : ℕ) → targetGood text r q t ≡ true → 0 < sizeAt text t
 unfolding targetGood startsOf
@@ -89,7 +75,7 @@ target-size text r q t g =
     start-hops text (length text) 4 t (and-both (among t (startsOf text)) (leb t (firstExposure text r q (startsOf text))) rest .0) .1 .1
 
 -- the raster at r, up to its loop back at q with a good target t
-pub target-split : (E : Env) (text : List ℕ) (r q t c len a : ℕ) → Hops text 4 r a → judge E text r Shut ≡ Opens → Line E text r (r + sizeAt text r) 0 len q c → 0 < c
+pub target-split : (E : Env) (text : List ℕ) (r q t c len a : ℕ) → Hops text 4 r a → judge (E .cards) text r Shut ≡ Opens → Line E text r (r + sizeAt text r) 0 len q c → 0 < c
     → targetGood text r q t ≡ true → (k : ℕ) × Hops text (r + sizeAt text r) t k × Split E text r (r + sizeAt text r) t q c len k
 unfolding targetGood startsOf
 target-split E text r q t c len a s j l z g =

@@ -3,7 +3,7 @@
 use Prim.Native.Nat.{ℕ, zero, suc, _+_, _-_, _≤_, _<_}
 use native.Mathlib.Omega.{arith}
 use mathlib.Core.Path.{_≡_, refl, sym, ap, subst, _∙_}
-use mathlib.Core.Bool.{Bool, true, false, cond, not}
+use mathlib.Core.Bool.{Bool, true, false, cond, not, or-true}
 use mathlib.Core.List.{List, [], _∷_, _++_}
 use lib.Dec.{ltb, eqb}
 use lib.ListN.{length}
@@ -13,12 +13,12 @@ use Rattle.memory.specs.Memory.{placeAt}
 use Rattle.sequence.specs.declared.Command.{Command}
 use Rattle.sequence.specs.declared.Command.the-variants.{RunRaster, Expose, LoopBack, CallSequence, Terminate, Delay}
 use Rattle.sequence.specs.Text.{lengthGood, limit, noneThere, commandAt, sizeAt, sizeOf, numberOf, isRunRaster}
-use Rattle.sequence.specs.Starts.{starts, startsOf}
+use Rattle.sequence.specs.Starts.{starts, startsOf, rastersAmong}
 use Rattle.sequence.specs.Env.{Env}
 use Rattle.sequence.proofs.Laws.{size-inside, starts-off, starts-on}
 use Rattle.sequence.proofs.Hops.{hops-le}
 use Rattle.runner.specs.declared.Opened.{Opened}
-use Rattle.runner.specs.declared.Opened.the-variants.{Shut, Open}
+use Rattle.runner.specs.declared.Opened.the-variants.{Shut}
 use Rattle.runner.specs.declared.Act.{Act}
 use Rattle.runner.specs.declared.Act.the-variants.{Refused, Opens, Exposes, Loops, Waits, Calls, Ends}
 use Rattle.runner.specs.Judge.{closeRows, judge}
@@ -26,10 +26,9 @@ use Rattle.survey.specs.declared.Item.{Item}
 use Rattle.survey.specs.declared.Item.the-variants.{Pause, Scan}
 use Rattle.survey.specs.declared.Closing.{Closing}
 use Rattle.survey.specs.declared.Closing.the-variants.{Terminates, CallsOn}
-use Rattle.promises.specs.Demand3.{lastOf, closingOf, rastersAmong}
+use Rattle.promises.specs.Demand3.{lastOf, closingOf}
 use Rattle.promises.specs.EachCheck.{isLoopBack}
 use Rattle.promises.proofs.Text.Rules.{View, refused, opens, opens-again, exposes, loops, waits, calls, ends, view-of, opens-command, opens-size, size-some, ownRows, tells}
-use Rattle.promises.proofs.Chain.Listing.{or-true}
 use Rattle.promises.proofs.Text.Lines.{Line, stop, delay, expose, closed, closingAct, Body, closes, pauses, scans}
 use Rattle.promises.proofs.Text.Targets.{line-hops}
 
@@ -81,7 +80,7 @@ module _ (E : Env) (text : List ℕ) (p : ℕ) where
   inner o a x (calls {n} k) = stands (CallSequence n) k (omega arith) refl refl
   inner o a x (ends k) = stands Terminate k (omega arith) refl refl
 
-  by-judge : (o : Opened) (a : Act) → IsInner a → judge E text p o ≡ a → (0 < sizeAt text p) × Inner text p
+  by-judge : (o : Opened) (a : Act) → IsInner a → judge (E .cards) text p o ≡ a → (0 < sizeAt text p) × Inner text p
   by-judge o a x j = inner o a x (view-of E text p o a j)
 
   loops-there : (o : Opened) (t : ℕ) → View E text p o (Loops t) → (0 < sizeAt text p) × (commandAt text p ≡ LoopBack t)
@@ -93,7 +92,7 @@ module _ (E : Env) (text : List ℕ) (p : ℕ) where
   unfolding closeRows
   ends-text n = eqb-true (p + sizeAt text p) (limit text) (not-false (eqb (p + sizeAt text p) (limit text)) (n .1 .0))
 
-  closes-last : (closing : Closing) → judge E text p Shut ≡ closingAct closing → View E text p Shut (closingAct closing)
+  closes-last : (closing : Closing) → judge (E .cards) text p Shut ≡ closingAct closing → View E text p Shut (closingAct closing)
       → (p + sizeAt text p ≡ limit text) × (commandAt text p ≡ commandOf closing)
   closes-last Terminates j (ends k) = (ends-text (subst (λ (y : Command). NoneHolds (ownRows E text p Shut y)) k (tells E text p Shut Ends j)), k)
   closes-last (CallsOn n) j (calls k) = (ends-text (subst (λ (y : Command). NoneHolds (ownRows E text p Shut y)) k (tells E text p Shut (Calls n) j)), k)
@@ -155,9 +154,9 @@ module _ (text : List ℕ) where
 line-order : {E : Env} {text : List ℕ} {r p c len p′ c′ : ℕ} → Line E text r p c len p′ c′ → (f : ℕ) → length text ≤ p + f → Stretch text f p p′ len
 line-order stop f h = record { fuel = f; places = []; are = refl; many = refl; within = tt; enough = h }
 line-order {E} {text} {r} {p′} (delay {p} {c} {len} j l) f h =
-    one-more text f p p′ len h (by-judge E text p (Open (placeAt r) c) Waits tt j) (hops-le (line-hops l)) (λ g k. line-order l g k)
+    one-more text f p p′ len h (by-judge E text p _ Waits tt (j 0)) (hops-le (line-hops l)) (λ g k. line-order l g k)
 line-order {E} {text} {r} {p′} (expose {p} {c} {len} j y l) f h =
-    one-more text f p p′ len h (by-judge E text p (Open (placeAt r) c) (Exposes (placeAt r)) tt j) (hops-le (line-hops l)) (λ g k. line-order l g k)
+    one-more text f p p′ len h (by-judge E text p _ (Exposes (placeAt r)) tt (j 0)) (hops-le (line-hops l)) (λ g k. line-order l g k)
 
 body-order : {E : Env} {text : List ℕ} {p e : ℕ} {items : List Item} {closing : Closing} → Body E text p items (closed e closing) → (f : ℕ) → length text ≤ p + f
     → Order text closing (starts text f p) items
@@ -176,7 +175,7 @@ body-order {E} {text} {closing} (scans {p} {t} {b = q} {before} {from} {items} R
     let (g, e, k) = next-start text f p h (opens-size E text p (R .run)) in
     let first = line-order (R .first) g k in
     let again = line-order (R .again) (first .fuel) (first .enough) in
-    let (z, back) = loops-there E text q _ t (view-of E text q _ (Loops t) (R .loops)) in
+    let (z, back) = loops-there E text q _ t (view-of E text q _ (Loops t) (R .loops 0)) in
     let (g′, e′, k′) = next-start text (again .fuel) q (again .enough) z in
     let rest = starts text g′ (q + sizeAt text q) in
     let same = e ∙ ap (λ (ps : List ℕ). p ∷ ps) (first .are ∙ ap (λ (ps : List ℕ). first .places ++ ps) (again .are ∙ ap (λ (ps : List ℕ). again .places ++ ps) e′)) in

@@ -4,9 +4,6 @@ use borrow.Author.Needs.{needs}
 use Rattle.runner.proofs.expose_fault.Statement.{statement}
 use Rattle.runner.proofs.expose_fault.Tie as tie
 
-enum-told : tie.Need-enum-told
-enum-told c = search needs
-
 returns : tie.Need-returns
 unfolding exposeRows
 returns c = simp (c .enum-told .given .1)
@@ -19,7 +16,7 @@ pub expose-fault-spec : {M : Type 1} → statement M
 expose-fault-spec =
     tie.close
     (tie.spec
-    enum-told
+    (λ c. search needs)
     (λ c. search needs)
     (λ c κs. search needs)
     (λ c κs. search needs)

@@ -4,9 +4,6 @@ use borrow.Author.Needs.{needs}
 use Rattle.runner.proofs.loop_fault.Statement.{statement}
 use Rattle.runner.proofs.loop_fault.Tie as tie
 
-enum-told : tie.Need-enum-told
-enum-told c = search needs
-
 returns : tie.Need-returns
 unfolding loopRows
 returns c = simp (c .enum-told .given .1)
@@ -19,7 +16,7 @@ pub loop-fault-spec : {M : Type 1} → statement M
 loop-fault-spec =
     tie.close
     (tie.spec
-    enum-told
+    (λ c. search needs)
     (λ c. search needs)
     (λ c κs. search needs)
     (λ c κs. search needs)

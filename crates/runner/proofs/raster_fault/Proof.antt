@@ -1,7 +1,7 @@
 -- Four tables, one after the other.
 use mathlib.Core.List.{List, _++_}
 use Rattle.octets.specs.Rows.{Row}
-use Rattle.sequence.specs.Env.{envOf}
+use Rattle.sequence.specs.Env.{cardsOf}
 use Rattle.runner.specs.Judge.{countRows, listRows, pathRows, flagRows, rasterRows}
 use Rattle.octets.proofs.Laws.{first-joined}
 use borrow.Author.Needs.{needs}
@@ -12,10 +12,10 @@ returns : tie.Need-returns
 unfolding rasterRows pathRows
 returns c =
     let a = c .before .before .before .before .before .before .before .before .args in
-    let ends : List Row = pathRows (a .raster) ++ flagRows (a .raster) in
-    first-joined (countRows (a .raster)) (listRows (envOf (a .lists .now)) (a .raster) ++ ends) tt _ _ _ (c .refuse3 .ensures) (c .before .before .before .before .before .before .count-fault .ensures)
-    (first-joined (listRows (envOf (a .lists .now)) (a .raster)) ends tt _ _ _ (c .before .refuse2 .ensures) (c .before .before .before .before .before .list-fault .ensures)
-    (first-joined (pathRows (a .raster)) (flagRows (a .raster)) tt _ _ _ (c .before .before .refuse .ensures) (c .before .before .before .before .path-fault .ensures) (c .before .before .before .flag-fault .ensures)))
+    let ends : List Row = pathRows (a .raster) (a .k) ++ flagRows (a .raster) in
+    first-joined (countRows (a .raster)) (listRows (cardsOf (a .lists .now)) (a .raster) ++ ends) tt _ _ _ (c .refuse3 .ensures) (c .before .before .before .before .before .before .count-fault .ensures)
+    (first-joined (listRows (cardsOf (a .lists .now)) (a .raster)) ends tt _ _ _ (c .before .refuse2 .ensures) (c .before .before .before .before .before .list-fault .ensures)
+    (first-joined (pathRows (a .raster) (a .k)) (flagRows (a .raster)) tt _ _ _ (c .before .before .refuse .ensures) (c .before .before .before .before .path-fault .ensures) (c .before .before .before .flag-fault .ensures)))
 
 pub raster-fault-spec : {M : Type 1} → statement M
 raster-fault-spec =

@@ -1,18 +1,11 @@
--- Both factors are words, so product and sum fit a double word.
-use native.Mathlib.Omega.{arith}
-use Rattle.runner.proofs.Laws.{reach-fits, reach-none}
+-- The passes go on from where the repeat begins.
+use mathlib.Core.Path.{refl}
 use borrow.Author.Needs.{needs}
 use Rattle.runner.proofs.reach.Statement.{statement}
 use Rattle.runner.proofs.reach.Tie as tie
 
 returns : tie.Need-returns
-returns c = let a = c .before .args in reach-none (a .initial) (a .loops) (a .step) (c .if1 .taken)
-
-mul-result : tie.Need-mul-result
-mul-result c = let a = c .before .args in record { fits = omega (arith, reach-fits (a .loops) (a .step) (search needs) (search needs)) }
-
-add-result : tie.Need-add-result
-add-result c = let a = c .before .args in omega (arith, reach-fits (a .loops) (a .step) (search needs) (search needs))
+returns c = simp (c .last-pass .ensures, c .before .start-of .ensures (c .before .before .args .raster) refl)
 
 pub reach-spec : {M : Type 1} → statement M
-reach-spec = tie.close (tie.spec returns (λ c. search needs) mul-result add-result (λ c. search needs))
+reach-spec = tie.close (tie.spec (λ c κs. search needs) (λ c κs. search needs) returns)

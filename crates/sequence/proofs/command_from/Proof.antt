@@ -1,6 +1,8 @@
 -- Each way out is the definition's branch. Past the test of the fit, the command's bytes lie among the commands; a number that is known
 -- and is none of the first five is the delay's.
 use Prim.Native.Nat.{ℕ, _+_}
+use mir.Val.{Fits}
+use mir.Syntax.{w64}
 use native.Mathlib.Omega.{arith}
 use mathlib.Core.Path.{_≡_, refl, sym, ap, _∙_}
 use mathlib.Core.Bool.{false}
@@ -9,9 +11,10 @@ use lib.Dec.{eqb}
 use borrow.Author.Tests.{eq-eqb, ne-eqb, eqb-true, eqb-false, lt-ltb}
 use borrow.Author.Needs.{needs}
 use Rattle.octets.specs.Bytes.{byteAt}
+use Rattle.octets.proofs.Bools.{by-test}
 use Rattle.sequence.specs.declared.Command.the-variants.{Expose, Delay}
 use Rattle.sequence.specs.Text.{noneThere, sizeOf, commandAt}
-use Rattle.sequence.proofs.Laws.{Whole, by-test, some-there, size-strange, numbered, command-numbered}
+use Rattle.sequence.proofs.Laws.{Whole, some-there, size-strange, numbered, command-numbered}
 use Rattle.sequence.proofs.command_from.Statement.{statement}
 use Rattle.sequence.proofs.command_from.Tie as tie
 
@@ -28,6 +31,9 @@ whole : (c : tie.Else3) (n : ℕ) → byteAt (Text c) (At c) ≡ n → Whole (Te
 whole c n e =
     let w = some-there _ _ (some (c .before .before .before .before .before)) in
     record { from = w .from; fits = omega (arith, ap sizeOf e); inside = w .inside }
+
+next : (c : tie.Else3) → Fits w64 (At c + 1)
+next c = let w = some-there _ _ (some (c .before .before .before .before .before)) in omega arith
 
 stands : (c : tie.Else3) (n : ℕ) → byteAt (Text c) (At c) ≡ n → commandAt (Text c) (At c) ≡ numbered (Text c) (At c) n
 stands c n e = command-numbered _ _ n e (some (c .before .before .before .before .before)) (whole c n e .fits)
@@ -58,59 +64,32 @@ unfolding commandAt
 returns-3 c = let s = c .before .before .before .size-of in let p = c .before .before .before .before .before .before .before .before .args .at in
     simp (some (c .before .before .before .before .before), ← s .ensures .0, ne-eqb (s .result) 0 (c .before .before .if2 .left), ← c .before .room .ensures, lt-ltb (p + c .before .room .result) (p + s .result) (omega arith))
 
-add-word-in : tie.Need-add-word-in
-add-word-in c = let w = some-there _ _ (some (c .before .before .before .before .before .before)) in omega arith
-
 word-in-requires : tie.Need-word-in-requires
 unfolding sizeOf
 word-in-requires c κs = let w = whole (c .before) 0x91 (c .match .keys2) in omega arith
-
-add-t12 : tie.Need-add-t12
-add-t12 c = let w = some-there _ _ (some (c .before .before .before .before .before .before)) in omega arith
 
 shared-slice-read-t14 : tie.Need-shared-slice-read-t14
 unfolding sizeOf
 shared-slice-read-t14 c = let w = whole (c .before .before) 0x92 (c .before .match .keys3) in omega arith
 
-add-t15 : tie.Need-add-t15
-add-t15 c = let w = some-there _ _ (some (c .before .before .before .before .before .before)) in omega arith
-
 shared-slice-read-t17 : tie.Need-shared-slice-read-t17
 unfolding sizeOf
 shared-slice-read-t17 c = let w = whole (c .before .before) 0x93 (c .before .match .keys4) in omega arith
-
-add-word-in-2 : tie.Need-add-word-in-2
-add-word-in-2 c = let w = some-there _ _ (some (c .before .before .before .before .before .before)) in omega arith
 
 word-in-requires-2 : tie.Need-word-in-requires-2
 unfolding sizeOf
 word-in-requires-2 c κs = let w = whole (c .before) 0x95 (delays c) in omega arith
 
-returns-4 : tie.Need-returns-4
-unfolding sizeOf
-returns-4 c = sym (stands (c .before) 0x90 (c .match .keys1))
-
 returns-5 : tie.Need-returns-5
 unfolding sizeOf
 returns-5 c = ap Expose (c .word-in .ensures) ∙ sym (stands (c .before .before) 0x91 (c .before .match .keys2))
-
-returns-6 : tie.Need-returns-6
-unfolding sizeOf
-returns-6 c = sym (stands (c .before .before) 0x92 (c .before .match .keys3))
-
-returns-7 : tie.Need-returns-7
-unfolding sizeOf
-returns-7 c = sym (stands (c .before .before) 0x93 (c .before .match .keys4))
-
-returns-8 : tie.Need-returns-8
-unfolding sizeOf
-returns-8 c = sym (stands (c .before) 0x94 (c .match .keys5))
 
 returns-9 : tie.Need-returns-9
 unfolding sizeOf
 returns-9 c = ap Delay (c .word-in2 .ensures) ∙ sym (stands (c .before .before) 0x95 (delays (c .before)))
 
 pub command-from-spec : {M : Type 1} → statement M
+unfolding sizeOf
 command-from-spec =
     tie.close
     (tie.spec
@@ -121,17 +100,17 @@ command-from-spec =
     returns-2
     room-requires
     returns-3
-    add-word-in
+    (λ c. next (c .before))
     word-in-requires
-    add-t12
+    (λ c. next (c .before))
     shared-slice-read-t14
-    add-t15
+    (λ c. next (c .before))
     shared-slice-read-t17
-    add-word-in-2
+    (λ c. next (c .before))
     word-in-requires-2
-    returns-4
+    (λ c. sym (stands (c .before) 0x90 (c .match .keys1)))
     returns-5
-    returns-6
-    returns-7
-    returns-8
+    (λ c. sym (stands (c .before .before) 0x92 (c .before .match .keys3)))
+    (λ c. sym (stands (c .before .before) 0x93 (c .before .match .keys4)))
+    (λ c. sym (stands (c .before) 0x94 (c .match .keys5)))
     returns-9)

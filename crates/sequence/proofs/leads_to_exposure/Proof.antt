@@ -26,9 +26,6 @@ seen-now c = let l = c .before .before .before .before .loop in
 loop-holds : tie.Need-loop-holds Inv-loop μ-loop
 loop-holds c = (omega arith, (λ e. absurd (false≢true e), λ r h. refl))
 
-size-at-requires : tie.Need-size-at-requires Inv-loop μ-loop
-size-at-requires c κs = search needs
-
 returns : tie.Need-returns Inv-loop μ-loop
 returns c = λ r h. let l = c .before .before .before .loop in
     sym (l .inv .1 .1 r h ∙ leads-off _ r _ _ (l .seen) (l .at) _ (c .before .before .before .before .before .pre) (c .before .size-at .ensures) (c .if1 .taken))
@@ -68,7 +65,7 @@ leads-to-exposure-spec =
     Inv-loop
     μ-loop
     loop-holds
-    size-at-requires
+    (λ c κs. search needs)
     returns
     shared-slice-read-if3
     returns-2

@@ -18,9 +18,6 @@ Inv-loop text q t raster target at₀ at = targetGood text raster (q .0) t ≡ l
 abbrev μ-loop : tie.MeasureT-loop
 μ-loop text q t raster target at₀ at = length text - at
 
-index-requires : tie.Need-index-requires Inv-loop μ-loop
-index-requires c κs = search needs
-
 returns : tie.Need-returns Inv-loop μ-loop
 unfolding targetGood
 returns c = simp (← c .before .index .ensures .0, le-ltb _ _ (c .if1 .taken))
@@ -28,9 +25,6 @@ returns c = simp (← c .before .index .ensures .0, le-ltb _ _ (c .if1 .taken))
 loop-holds : tie.Need-loop-holds Inv-loop μ-loop
 unfolding targetGood startsOf
 loop-holds c = rw (lt-ltb _ _ (c .if1 .left))
-
-size-at-requires : tie.Need-size-at-requires Inv-loop μ-loop
-size-at-requires c κs = search needs
 
 returns-2 : tie.Need-returns-2 Inv-loop μ-loop
 returns-2 c = let l = c .before .before .before .loop in
@@ -46,9 +40,6 @@ loop-again : tie.Need-loop-again Inv-loop μ-loop
 loop-again c = let l = c .before .before .before .loop in
     l .inv ∙ leads-before _ _ _ _ (l .at) _ (c .before .size-at .ensures) (c .if2 .left) (c .before .before .before .before .if1 .left) (c .before .before .loop-test .taken)
 
-index-requires-2 : tie.Need-index-requires-2 Inv-loop μ-loop
-index-requires-2 c κs = search needs
-
 leads-to-exposure-requires : tie.Need-leads-to-exposure-requires Inv-loop μ-loop
 leads-to-exposure-requires c κs = omega arith
 
@@ -61,14 +52,14 @@ target-good-spec =
     (tie.spec
     Inv-loop
     μ-loop
-    index-requires
+    (λ c κs. search needs)
     returns
     loop-holds
-    size-at-requires
+    (λ c κs. search needs)
     returns-2
     add-at
     loop-less
     loop-again
-    index-requires-2
+    (λ c κs. search needs)
     leads-to-exposure-requires
     returns-3)

@@ -3,16 +3,16 @@
 use Prim.Native.Nat.{_+_, _-_, _≤_}
 use mathlib.Core.Path.{_≡_, refl}
 use native.Mathlib.Omega.{arith}
-use Rattle.survey.specs.Walk.{between}
+use Rattle.survey.specs.Held.{between}
 use Rattle.survey.proofs.Laws.{between-start, between-here, between-over, between-on}
 use Rattle.survey.proofs.between.Statement.{statement}
 use Rattle.survey.proofs.between.Tie as tie
 
 abbrev Inv-loop : tie.InvT-loop
-Inv-loop text most from t at₀ n₀ at n = (n ≤ most) × (n + between text (most - n) at t ≡ between text most from t)
+Inv-loop format text most from t at₀ n₀ at n = (n ≤ most) × (n + between text (most - n) at t ≡ between text most from t)
 
 abbrev μ-loop : tie.MeasureT-loop
-μ-loop text most from t at₀ n₀ at n = most - n
+μ-loop format text most from t at₀ n₀ at n = most - n
 
 loop-holds : tie.Need-loop-holds Inv-loop μ-loop
 loop-holds c = let a = c .before .args in (omega arith, between-start (a .text .now) (a .most) (a .t) _ (a .from) refl)

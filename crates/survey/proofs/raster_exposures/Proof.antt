@@ -11,27 +11,9 @@ use Rattle.survey.proofs.raster_exposures.Tie as tie
 narrow-here : (s : tie.After-shared-slice-known) → Narrow (rasterAt (s .before .args .text .now) (s .before .args .at .0))
 narrow-here s = narrow (s .before .args .text .now) (s .before .args .at .0) (λ k. s .shared-slice-known .given k .fits)
 
-loops-at-requires : tie.Need-loops-at-requires
-loops-at-requires c κs = search needs
-
-cast-result : tie.Need-cast-result
-cast-result c = search needs
-
-exposures-at-requires : tie.Need-exposures-at-requires
-exposures-at-requires c κs = search needs
-
-cast-result-2 : tie.Need-cast-result-2
-cast-result-2 c = search needs
-
 mul-result : tie.Need-mul-result
 mul-result c = let m = sets-most _ (narrow-here (c .before .before)) in
     rw (c .exposures-at .ensures, c .before .loops-at .ensures) (omega arith)
-
-repeats-at-requires : tie.Need-repeats-at-requires
-repeats-at-requires c κs = search needs
-
-cast-result-3 : tie.Need-cast-result-3
-cast-result-3 c = search needs
 
 mul-result-2 : tie.Need-mul-result-2
 mul-result-2 c = let m = exposures-most _ (narrow-here (c .before .before .before)) in
@@ -46,12 +28,12 @@ pub raster-exposures-spec : {M : Type 1} → statement M
 raster-exposures-spec =
     tie.close
     (tie.spec
-    loops-at-requires
-    cast-result
-    exposures-at-requires
-    cast-result-2
+    (λ c κs. search needs)
+    (λ c. search needs)
+    (λ c κs. search needs)
+    (λ c. search needs)
     mul-result
-    repeats-at-requires
-    cast-result-3
+    (λ c κs. search needs)
+    (λ c. search needs)
     mul-result-2
     returns)

@@ -11,27 +11,9 @@ use Rattle.survey.proofs.raster_steps.Tie as tie
 narrow-here : (s : tie.After-shared-slice-known) → Narrow (rasterAt (s .before .args .text .now) (s .before .args .at .0))
 narrow-here s = narrow (s .before .args .text .now) (s .before .args .at .0) (λ k. s .shared-slice-known .given k .fits)
 
-loops-at-requires : tie.Need-loops-at-requires
-loops-at-requires c κs = search needs
-
-cast-pass : tie.Need-cast-pass
-cast-pass c = search needs
-
-add-pass : tie.Need-add-pass
-add-pass c = search needs
-
 mul-pass : tie.Need-mul-pass
 mul-pass c = let a = c .before .before .args in let m = pass-most _ (narrow-here (c .before)) (a .from) (omega arith) in
     rw (c .loops-at .ensures) (omega arith)
-
-repeats-at-requires : tie.Need-repeats-at-requires
-repeats-at-requires c κs = search needs
-
-cast-result : tie.Need-cast-result
-cast-result c = search needs
-
-add-result : tie.Need-add-result
-add-result c = search needs
 
 add-result-2 : tie.Need-add-result-2
 add-result-2 c = let a = c .before .before .before .args in let m = pass-most _ (narrow-here (c .before .before)) (a .from) (omega arith) in
@@ -50,13 +32,13 @@ pub raster-steps-spec : {M : Type 1} → statement M
 raster-steps-spec =
     tie.close
     (tie.spec
-    loops-at-requires
-    cast-pass
-    add-pass
+    (λ c κs. search needs)
+    (λ c. search needs)
+    (λ c. search needs)
     mul-pass
-    repeats-at-requires
-    cast-result
-    add-result
+    (λ c κs. search needs)
+    (λ c. search needs)
+    (λ c. search needs)
     add-result-2
     mul-result
     returns)

@@ -4,21 +4,6 @@ use borrow.Author.Needs.{needs}
 use Rattle.unit.proofs.dump_range.Statement.{statement}
 use Rattle.unit.proofs.dump_range.Tie as tie
 
-triple-requires : tie.Need-triple-requires
-triple-requires c κs = search needs
-
-of-requires : tie.Need-of-requires
-of-requires c κs = search needs
-
-triple-requires-2 : tie.Need-triple-requires-2
-triple-requires-2 c κs = search needs
-
-cast-range : tie.Need-cast-range
-cast-range c = search needs
-
-range-requires : tie.Need-range-requires
-range-requires c κs = search needs
-
 returns : tie.Need-returns
 unfolding rangeAt
 returns c = simp (c .range .ensures, c .before .triple2 .ensures, c .before .before .of .ensures, c .before .before .before .triple .ensures)
@@ -26,4 +11,4 @@ returns c = simp (c .range .ensures, c .before .triple2 .ensures, c .before .bef
 pub dump-range-spec : {M : Type 1} → statement M
 dump-range-spec =
     tie.close
-    (tie.spec triple-requires of-requires triple-requires-2 cast-range range-requires returns)
+    (tie.spec (λ c κs. search needs) (λ c κs. search needs) (λ c κs. search needs) (λ c. search needs) (λ c κs. search needs) returns)

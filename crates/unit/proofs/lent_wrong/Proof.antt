@@ -4,15 +4,9 @@ use borrow.Author.Needs.{needs}
 use Rattle.unit.proofs.lent_wrong.Statement.{statement}
 use Rattle.unit.proofs.lent_wrong.Tie as tie
 
-tables-wrong-requires : tie.Need-tables-wrong-requires
-tables-wrong-requires c κs = search needs
-
-either-requires : tie.Need-either-requires
-either-requires c κs = search needs
-
 returns : tie.Need-returns
 unfolding lentWrong
 returns c = simp (c .either .ensures, c .before .tables-wrong .ensures)
 
 pub lent-wrong-spec : {M : Type 1} → statement M
-lent-wrong-spec = tie.close (tie.spec tables-wrong-requires either-requires returns)
+lent-wrong-spec = tie.close (tie.spec (λ c κs. search needs) (λ c κs. search needs) returns)

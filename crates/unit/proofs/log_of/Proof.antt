@@ -3,18 +3,6 @@ use borrow.Author.Needs.{needs}
 use Rattle.unit.proofs.log_of.Statement.{statement}
 use Rattle.unit.proofs.log_of.Tie as tie
 
-byte-requires : tie.Need-byte-requires
-byte-requires c κs = search needs
-
-byte-requires-2 : tie.Need-byte-requires-2
-byte-requires-2 c κs = search needs
-
-byte-requires-3 : tie.Need-byte-requires-3
-byte-requires-3 c κs = search needs
-
-log-size-requires : tie.Need-log-size-requires
-log-size-requires c κs = search needs
-
 returns : tie.Need-returns
 returns c =
     simp (
@@ -26,4 +14,4 @@ returns c =
 
 pub log-of-spec : {M : Type 1} → statement M
 log-of-spec =
-    tie.close (tie.spec byte-requires byte-requires-2 byte-requires-3 log-size-requires returns)
+    tie.close (tie.spec (λ c κs. search needs) (λ c κs. search needs) (λ c κs. search needs) (λ c κs. search needs) returns)

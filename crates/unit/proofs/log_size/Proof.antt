@@ -4,9 +4,6 @@ use borrow.Author.Needs.{needs}
 use Rattle.unit.proofs.log_size.Statement.{statement}
 use Rattle.unit.proofs.log_size.Tie as tie
 
-cast-result : tie.Need-cast-result
-cast-result c = search needs
-
 returns : tie.Need-returns
 returns c = simp (lt-ltb _ _ (c .if1 .taken))
 
@@ -14,4 +11,4 @@ returns-2 : tie.Need-returns-2
 returns-2 c = simp (le-ltb _ _ (c .if1 .left))
 
 pub log-size-spec : {M : Type 1} → statement M
-log-size-spec = tie.close (tie.spec cast-result returns returns-2)
+log-size-spec = tie.close (tie.spec (λ c. search needs) returns returns-2)

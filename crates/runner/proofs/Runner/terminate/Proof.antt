@@ -8,7 +8,7 @@ use Rattle.runner.proofs.Runner.terminate.Tie as tie
 
 returns : tie.Need-returns
 unfolding act
-returns c = rw (← c .before .before .before .opened .ensures, ← c .before .before .close-fault .ensures, close-three _ _ _ _ (c .before .before .close-fault .ensures) (c .before .if1 .taken)) (c .aborted .ensures)
+returns c = rw (← c .before .before .before .opened .ensures, ← c .before .before .close-fault .ensures, close-three _ _ _ _ (c .before .before .close-fault .ensures) (c .before .if1 .taken)) (c .refused .ensures)
 
 returns-2 : tie.Need-returns-2
 unfolding act ended
@@ -16,7 +16,7 @@ returns-2 c = rw (← c .before .before .before .before .before .opened .ensures
 
 returns-3 : tie.Need-returns-3
 unfolding act ended
-returns-3 c = rw (← c .before .before .before .before .opened .ensures, ← c .before .before .before .close-fault .ensures, c .before .before .if1 .left, le-ltb _ _ (c .if2 .left))
+returns-3 c = rw (← c .before .before .before .before .before .opened .ensures, ← c .before .before .before .before .close-fault .ensures, c .before .before .before .if1 .left, le-ltb _ _ (c .before .if2 .left))
 
 pub terminate-spec : {M : Type 1} → statement M
 terminate-spec =

@@ -4,15 +4,9 @@ use borrow.Author.Needs.{needs}
 use Rattle.survey.proofs.Checked.report.Statement.{statement}
 use Rattle.survey.proofs.Checked.report.Tie as tie
 
-total-requires : tie.Need-total-requires
-total-requires c κs = search needs
-
-total-requires-2 : tie.Need-total-requires-2
-total-requires-2 c κs = search needs
-
 returns : tie.Need-returns
 unfolding reported
 returns c = rw (c .before .total .ensures, c .total2 .ensures)
 
 pub report-spec : {M : Type 1} → statement M
-report-spec = tie.close (tie.spec total-requires total-requires-2 returns)
+report-spec = tie.close (tie.spec (λ c κs. search needs) (λ c κs. search needs) returns)

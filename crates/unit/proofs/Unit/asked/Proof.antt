@@ -3,11 +3,8 @@ use borrow.Author.Needs.{needs}
 use Rattle.unit.proofs.Unit.asked.Statement.{statement}
 use Rattle.unit.proofs.Unit.asked.Tie as tie
 
-counted-requires : tie.Need-counted-requires
-counted-requires c κs = search needs
-
 returns : tie.Need-returns
 returns c = simp (c .before .before .before .counted .ensures)
 
 pub asked-spec : {M : Type 1} → statement M
-asked-spec = tie.close (tie.spec counted-requires returns)
+asked-spec = tie.close (tie.spec (λ c κs. search needs) returns)

@@ -3,11 +3,8 @@ use borrow.Author.Needs.{needs}
 use Rattle.unit.proofs.Unit.cleared.Statement.{statement}
 use Rattle.unit.proofs.Unit.cleared.Tie as tie
 
-cleared-requires : tie.Need-cleared-requires
-cleared-requires c κs = search needs
-
 returns : tie.Need-returns
 returns c = simp (c .before .before .cleared .ensures)
 
 pub cleared-spec : {M : Type 1} → statement M
-cleared-spec = tie.close (tie.spec cleared-requires returns)
+cleared-spec = tie.close (tie.spec (λ c κs. search needs) returns)

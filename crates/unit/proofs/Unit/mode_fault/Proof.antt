@@ -4,36 +4,9 @@ use borrow.Author.Needs.{needs}
 use Rattle.unit.proofs.Unit.mode_fault.Statement.{statement}
 use Rattle.unit.proofs.Unit.mode_fault.Tie as tie
 
-byte-requires : tie.Need-byte-requires
-byte-requires c κs = search needs
-
-between-requires : tie.Need-between-requires
-between-requires c κs = search needs
-
-pair-allowed-requires : tie.Need-pair-allowed-requires
-pair-allowed-requires c κs = search needs
-
-both-requires : tie.Need-both-requires
-both-requires c κs = search needs
-
-refuse-requires : tie.Need-refuse-requires
-refuse-requires c κs = search needs
-
-refuse-requires-2 : tie.Need-refuse-requires-2
-refuse-requires-2 c κs = search needs
-
-refuse-requires-3 : tie.Need-refuse-requires-3
-refuse-requires-3 c κs = search needs
-
-refuse-requires-4 : tie.Need-refuse-requires-4
-refuse-requires-4 c κs = search needs
-
-refuse-requires-5 : tie.Need-refuse-requires-5
-refuse-requires-5 c κs = search needs
-
 returns : tie.Need-returns
 unfolding ownRows
-returns c =
+returns c F =
     let b = c .before .before .before .before in
     let d = b .before .before .before .before in
     simp (
@@ -44,7 +17,7 @@ returns c =
       b .refuse .ensures,
       b .before .both .ensures,
       b .before .before .before .pair-allowed .ensures,
-      d .between .ensures,
+      d .from-to .ensures,
       d .before .before .byte .ensures,
     )
 
@@ -52,13 +25,13 @@ pub mode-fault-spec : {M : Type 1} → statement M
 mode-fault-spec =
     tie.close
     (tie.spec
-    byte-requires
-    between-requires
-    pair-allowed-requires
-    both-requires
-    refuse-requires
-    refuse-requires-2
-    refuse-requires-3
-    refuse-requires-4
-    refuse-requires-5
+    (λ c κs. search needs)
+    (λ c κs. search needs)
+    (λ c κs. search needs)
+    (λ c κs. search needs)
+    (λ c κs. search needs)
+    (λ c κs. search needs)
+    (λ c κs. search needs)
+    (λ c κs. search needs)
+    (λ c κs. search needs)
     returns)

@@ -4,12 +4,9 @@ use borrow.Author.Needs.{needs}
 use Rattle.unit.proofs.Unit.power_on.Statement.{statement}
 use Rattle.unit.proofs.Unit.power_on.Tie as tie
 
-blank-requires : tie.Need-blank-requires
-blank-requires c κs = search needs
-
 returns : tie.Need-returns
 unfolding powerOn
 returns c = simp (c .blank .ensures)
 
 pub power-on-spec : {M : Type 1} → statement M
-power-on-spec = tie.close (tie.spec blank-requires returns)
+power-on-spec = tie.close (tie.spec (λ c κs. search needs) returns)

@@ -9,12 +9,11 @@ returns : tie.Need-returns
 unfolding refusedUnit
 returns c = simp (le-leb _ _ (c .if1 .taken))
 
-failed-requires : tie.Need-failed-requires
-failed-requires c κs = search needs
-
 returns-2 : tie.Need-returns-2
 unfolding refusedUnit
-returns-2 c = simp (c .before .before .before .failed .ensures, lt-leb _ _ (c .before .before .before .before .if1 .left))
+returns-2 c =
+    let b = c .before .before .before in
+    simp (b .arrived .ensures, b .before .failed .ensures, b .before .before .byte .ensures, lt-leb _ _ (b .before .before .before .if1 .left))
 
 pub refused-spec : {M : Type 1} → statement M
-refused-spec = tie.close (tie.spec returns failed-requires returns-2)
+refused-spec = tie.close (tie.spec returns (λ c κs. search needs) (λ c κs. search needs) (λ c κs. search needs) returns-2)

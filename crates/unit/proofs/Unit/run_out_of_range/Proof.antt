@@ -4,30 +4,6 @@ use borrow.Author.Needs.{needs}
 use Rattle.unit.proofs.Unit.run_out_of_range.Statement.{statement}
 use Rattle.unit.proofs.Unit.run_out_of_range.Tie as tie
 
-beyond-requires : tie.Need-beyond-requires
-beyond-requires c κs = search needs
-
-runs-wrong-requires : tie.Need-runs-wrong-requires
-runs-wrong-requires c κs = search needs
-
-either-requires : tie.Need-either-requires
-either-requires c κs = search needs
-
-either-requires-2 : tie.Need-either-requires-2
-either-requires-2 c κs = search needs
-
-either-requires-3 : tie.Need-either-requires-3
-either-requires-3 c κs = search needs
-
-either-requires-4 : tie.Need-either-requires-4
-either-requires-4 c κs = search needs
-
-either-requires-5 : tie.Need-either-requires-5
-either-requires-5 c κs = search needs
-
-either-requires-6 : tie.Need-either-requires-6
-either-requires-6 c κs = search needs
-
 returns : tie.Need-returns
 unfolding rangeTests
 returns c =
@@ -41,19 +17,23 @@ returns c =
       b .either2 .ensures,
       b .before .either .ensures,
       b .before .before .runs-wrong .ensures,
-      d .before .before .beyond .ensures,
+      d .before .before .both .ensures,
+      d .before .before .before .before .no-place2 .ensures,
+      d .before .before .before .before .before .no-place .ensures,
     )
 
 pub run-out-of-range-spec : {M : Type 1} → statement M
 run-out-of-range-spec =
     tie.close
     (tie.spec
-    beyond-requires
-    runs-wrong-requires
-    either-requires
-    either-requires-2
-    either-requires-3
-    either-requires-4
-    either-requires-5
-    either-requires-6
+    (λ c κs. search needs)
+    (λ c κs. search needs)
+    (λ c κs. search needs)
+    (λ c κs. search needs)
+    (λ c κs. search needs)
+    (λ c κs. search needs)
+    (λ c κs. search needs)
+    (λ c κs. search needs)
+    (λ c κs. search needs)
+    (λ c κs. search needs)
     returns)

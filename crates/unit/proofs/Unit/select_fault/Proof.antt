@@ -4,18 +4,9 @@ use borrow.Author.Needs.{needs}
 use Rattle.unit.proofs.Unit.select_fault.Statement.{statement}
 use Rattle.unit.proofs.Unit.select_fault.Tie as tie
 
-byte-requires : tie.Need-byte-requires
-byte-requires c κs = search needs
-
-refuse-requires : tie.Need-refuse-requires
-refuse-requires c κs = search needs
-
-refuse-requires-2 : tie.Need-refuse-requires-2
-refuse-requires-2 c κs = search needs
-
 returns : tie.Need-returns
 unfolding ownRows
-returns c = simp (c .refuse2 .ensures, c .before .refuse .ensures, c .before .before .byte .ensures)
+returns c = simp (c .refuse2 .ensures, c .before .refuse .ensures, c .before .before .before .byte .ensures)
 
 pub select-fault-spec : {M : Type 1} → statement M
-select-fault-spec = tie.close (tie.spec byte-requires refuse-requires refuse-requires-2 returns)
+select-fault-spec = tie.close (tie.spec (λ c κs. search needs) (λ c κs. search needs) (λ c κs. search needs) returns)

@@ -52,3 +52,10 @@ raster size f shots sum =
     (0x92 ∷ 0x1B
     ∷ 0x94
     ∷ sum ∷ [])
+
+-- the raster sequence of document 01, and with another initial position
+abbrev pub rasterAtPosition : ℕ → ℕ → ℕ → List ℕ
+rasterAtPosition high low sum = raster 0x22 (fields high low 3 1 2 0 0) 1 sum
+
+abbrev pub theRaster : List ℕ
+theRaster = rasterAtPosition 0x00 0x64 0xC0
