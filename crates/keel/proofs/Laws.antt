@@ -1,7 +1,7 @@
--- Laws of the calls over the definitions alone: the bytes hold the unit and nothing else, and what a call leaves as it was. Assumes nothing.
+-- Laws of the calls over the definitions alone: what a call leaves as it was. Assumes nothing.
 use Prim.Native.Nat.{ℕ, zero, suc, _+_, _-_, _≤_, _<_}
 use native.Mathlib.Omega.{arith}
-use mathlib.Core.Path.{_≡_, refl, sym, ap, ap₂, _∙_}
+use mathlib.Core.Path.{_≡_, refl, sym, ap, _∙_}
 use mathlib.Core.Bool.{Bool, true, false, cond, not}
 use mathlib.Core.List.{List}
 use mathlib.Core.Logic.{_⊎_, inl, inr}
@@ -9,10 +9,9 @@ use lib.Dec.{eqb}
 use lib.ListN.{length, getD, take, drop}
 use lib.Seq.{getD-take, getD-drop}
 use borrow.Author.Tests.{eqb-true, not-false, ne-eqb, lt-leb, le-leb}
-use Rattle.octets.specs.Layout.{AllFit}
 use Rattle.octets.specs.Rows.{firstCode}
 use Rattle.octets.proofs.Laws.{none-holds}
-use Rattle.octets.proofs.LayoutLaws.{Octets, laid-reads, reads-laid}
+use Rattle.octets.proofs.LayoutLaws.{Octets}
 use Rattle.memory.specs.Memory.{flight, tablesWrong}
 use Rattle.sequence.specs.Env.{envOf}
 use Rattle.runner.specs.declared.Runner.{Runner}
@@ -24,28 +23,18 @@ use Rattle.runner.specs.Moves.{moves}
 use Rattle.runner.proofs.Laws.{step-idle}
 use Rattle.runner.proofs.Moves.{Moved, step-moves}
 use Rattle.unit.specs.declared.Unit.{Unit}
-use Rattle.unit.specs.declared.Ledger.{Ledger}
-use Rattle.unit.specs.declared.Watch.{Watch}
+use Rattle.status.specs.declared.Ledger.{Ledger}
 use Rattle.unit.specs.declared.Outcome.the-variants.{Denied, Saw}
 use Rattle.unit.specs.declared.UnitStep.{UnitStep}
 use Rattle.unit.specs.Packet.{lentWrong, codeOf}
 use Rattle.unit.specs.Answer.{unitAfter}
 use Rattle.unit.proofs.Laws.{refused-keeps}
-use Rattle.unit.specs.Step.{watched, stepRows, stepped, withStep, unitStepBy, unitStep}
-use Rattle.unit.specs.State.{powerOn, withLedger, withWatch, withRunner, outOfRange}
-use Rattle.keel.specs.State.{stateFields, stateOf, unitFrom, unitOf, flagsWrong}
-use Rattle.keel.specs.Calls.{stateSized, heldRows, heldCode, packetCode, stateAfter, keptSeqs, keptLists, keptOut, heldStep, stateBy, stateStepped}
-
--- ── the bytes of a state
--- saving what was loaded gives the bytes back
-pub load-save : (s : List ℕ) → length s ≡ 32 → Octets s → flagsWrong s ≡ false → stateOf (unitOf s) ≡ s
-unfolding unitOf stateOf flagsWrong
-load-save s h o f = laid-reads (stateFields powerOn) s (rw h tt) o f
-
--- loading what was saved gives the unit back
-pub save-load : (u : Unit) → AllFit (stateFields u) → unitOf (stateOf u) ≡ u
-unfolding unitOf stateOf
-save-load u h = ap unitFrom (reads-laid (stateFields u) 32 tt h)
+use Rattle.status.specs.State.{watched}
+use Rattle.unit.specs.Step.{stepRows, stepped, withStep, unitStepBy, unitStep}
+use Rattle.unit.specs.State.{withLedger, withWatch, withRunner, outOfRange}
+use Rattle.state.specs.State.{stateSized, stateOf, unitOf, flagsWrong}
+use Rattle.state.proofs.Laws.{load-save}
+use Rattle.keel.specs.Calls.{heldRows, heldCode, packetCode, stateAfter, keptSeqs, keptLists, keptOut, heldStep, stateBy, stateStepped}
 
 -- ── what the bytes of the state are refused for
 abbrev heldBy : Bool → Bool → Bool → ℕ
@@ -70,18 +59,18 @@ held-passed lent s h =
 
 -- ── a step
 -- a step that shows an event changes what the event moves in the run and in what the status takes from it
-pub record Took (u : Unit) (r : UnitStep) (e : Event) : Type 0 where
-  pub part : withWatch (r .unit .watch) (withRunner (r .unit .runner) u) ≡ r .unit
-  pub watch : r .unit .watch ≡ watched e (u .watch)
-  pub runner : r .unit .runner ≡ moves e (r .unit .runner) (u .runner)
+abbrev pub Took : Unit → Event → Unit → Type 0
+Took u e v = v ≡ withWatch (watched e (u .watch)) (withRunner (moves e (v .runner) (u .runner)) u)
 
 took-by : (t : Bool) (u : Unit) (x : Stepped) (code : ℕ) (e : Event) → Moved (u .runner) x
-    → cond t (withStep u x) (stepped (Denied code) u) .outcome ≡ Saw e → Took u (cond t (withStep u x) (stepped (Denied code) u)) e
+    → let r : UnitStep = cond t (withStep u x) (stepped (Denied code) u) in r .outcome ≡ Saw e → Took u e (r .unit)
 unfolding withStep
-took-by true u x code e m o = let f : x .event ≡ e = cc in record { part = refl; watch = ap (λ (v : Event). watched v (u .watch)) f; runner = rw (← f) m }
+took-by true u x code e m o =
+    let f : x .event ≡ e = cc in
+    rw (← f) (ap (λ (r : Runner). withWatch (watched (x .event) (u .watch)) (withRunner r u)) m)
 took-by false u x code e m o = let z : _≡_ {A = ℕ} 0 1 = cc in absurd (omega arith)
 
-pub took : (u : Unit) (seqs lists : List ℕ) (e : Event) → unitStep flight u seqs lists .outcome ≡ Saw e → Took u (unitStep flight u seqs lists) e
+pub took : (u : Unit) (seqs lists : List ℕ) (e : Event) → unitStep flight u seqs lists .outcome ≡ Saw e → Took u e (unitStep flight u seqs lists .unit)
 unfolding unitStep
 took u seqs lists e =
     let code = firstCode (stepRows flight u seqs lists) in
@@ -97,12 +86,6 @@ pub at-rest : (u : Unit) (seqs lists : List ℕ) → tablesWrong seqs lists ≡ 
 unfolding stepRows unitStep
 at-rest u seqs lists t n = simp (t, ← step-idle (envOf flight lists) seqs (u .runner) n) (rest-by (outOfRange flight u) u)
 
--- a step that shows IDLE leaves the unit as it was
-shown-idle : (u : Unit) (seqs lists : List ℕ) → unitStep flight u seqs lists .outcome ≡ Saw Idle → unitStep flight u seqs lists .unit ≡ u
-shown-idle u seqs lists o =
-    let k = took u seqs lists Idle o in
-    sym (k .part) ∙ ap₂ (λ (w : Watch) (r : Runner). withWatch w (withRunner r u)) (k .watch) (k .runner)
-
 idle-left : (t : Bool) (held : ℕ) (s : List ℕ) (u : Unit) (r : UnitStep)
     → (t ≡ true → r .outcome ≡ Saw Idle → stateOf (r .unit) ≡ s)
     → let x : UnitStep = cond t r (stepped (Denied held) u) in x .outcome ≡ Saw Idle → stateBy s x (x .outcome) ≡ s
@@ -117,7 +100,7 @@ module _ (s seqs lists : List ℕ) where
       let held = heldCode (tablesWrong seqs lists) s in
       let u = unitOf s in
       idle-left (eqb held 0) held s u (unitStep flight u seqs lists)
-      (λ z o. let (sized, (flags, lent)) = held-passed (tablesWrong seqs lists) s (eqb-true held 0 z) in ap stateOf (shown-idle u seqs lists o) ∙ load-save s sized octets flags)
+      (λ z o. let (sized, (flags, lent)) = held-passed (tablesWrong seqs lists) s (eqb-true held 0 z) in ap stateOf (took u seqs lists Idle o) ∙ load-save s sized octets flags)
 
   -- "16 and 17 leave every lent byte as it was"
   pub denied-keeps : (code : ℕ) → heldStep s seqs lists .outcome ≡ Denied code → stateStepped s seqs lists ≡ s
@@ -126,7 +109,7 @@ module _ (s seqs lists : List ℕ) where
 
 -- ── a packet
 -- a refused packet changes the ledger alone
-pub refused-unit : (u : Unit) (seqs lists out p : List ℕ) → (codeOf flight u seqs lists out p ≡ 0 → ⊥) → withLedger (unitAfter flight u seqs lists out p .ledger) u ≡ unitAfter flight u seqs lists out p
+refused-unit : (u : Unit) (seqs lists out p : List ℕ) → (codeOf flight u seqs lists out p ≡ 0 → ⊥) → withLedger (unitAfter flight u seqs lists out p .ledger) u ≡ unitAfter flight u seqs lists out p
 refused-unit u seqs lists out p n =
     let k = refused-keeps flight u seqs lists out p 0 n in
     λ i. record { ledger = unitAfter flight u seqs lists out p .ledger; control = sym (k .control) i; watch = sym (k .watch) i; runner = sym (k .runner) i }

@@ -5,10 +5,10 @@ use mathlib.Core.Path.{_≡_, refl, sym, ap, _∙_}
 use mathlib.Core.Bool.{Bool, true, false, cond}
 use mathlib.Core.List.{List, [], _∷_, _++_, append-nil, append-assoc}
 use lib.Dec.{leb, eqb}
-use lib.ListN.{length, set, drop, length-append, length-drop, drop-of-length-le}
+use lib.ListN.{length, drop, length-append, length-drop, drop-of-length-le}
 use lib.Seq.{take-append-seam, drop-append-add}
 use borrow.Author.Tests.{leb-true, le-leb, ne-eqb}
-use Rattle.octets.specs.Bytes.{byteAt, two, eight}
+use Rattle.octets.specs.Bytes.{two, eight}
 use Rattle.octets.proofs.LayoutLaws.{Octets}
 use Rattle.octets.proofs.Bools.{either}
 use Rattle.memory.specs.Memory.{flight, tablesWrong, written}
@@ -19,22 +19,24 @@ use Rattle.survey.specs.declared.Report.{Report}
 use Rattle.survey.specs.Chain.{Told}
 use Rattle.survey.specs.Report.{endingShown, reportOf}
 use Rattle.unit.specs.declared.Unit.{Unit}
-use Rattle.unit.specs.declared.Telecommand.{Telecommand}
-use Rattle.unit.specs.declared.Telecommand.the-variants.{Status, Dump, Mode}
+use Rattle.telecommand.specs.declared.Telecommand.{Telecommand}
+use Rattle.telecommand.specs.declared.Telecommand.the-variants.{Status, Dump}
 use Rattle.unit.specs.declared.Answer.{Answer}
 use Rattle.unit.specs.declared.Outcome.the-variants.{Denied, Saw}
 use Rattle.unit.specs.declared.UnitStep.{UnitStep}
-use Rattle.unit.specs.State.{withControl, withMode, powerOn, outOfRange, moded}
-use Rattle.unit.specs.Packet.{is, commandOf, lentWrong, codeOf}
+use Rattle.unit.specs.State.{powerOn, outOfRange}
+use Rattle.telecommand.specs.Packet.{is, commandOf}
+use Rattle.unit.specs.Packet.{lentWrong, codeOf}
 use Rattle.unit.specs.Status.{statusOf}
-use Rattle.unit.specs.Answer.{reply, effect, obeyedUnit, refusedUnit, unitAfter, replyOf, answerOf, seqsAfter, listsAfter, outAfter}
+use Rattle.unit.specs.Answer.{reply, refusedUnit, unitAfter, replyOf, answerOf, seqsAfter, listsAfter, outAfter}
 use Rattle.unit.specs.Step.{stepped, unitStep}
-use Rattle.unit.proofs.Ways.{dump-short}
-use Rattle.keel.specs.State.{unitOf, stateOf}
-use Rattle.keel.specs.Parts.{logOver, ledgerOver, placeOver, runOver, StepWritten, AnswerWritten}
+use Rattle.telecommand.proofs.Ways.{dump-short}
+use Rattle.state.specs.State.{unitOf, stateOf}
+use Rattle.state.specs.Parts.{answerOver, stepOver}
+use Rattle.state.proofs.Laws.{load-save, answer-saved, step-saved}
 use Rattle.keel.specs.Calls.{heldCode, packetCode, packetReply, packetAnswer, stateAfter, keptSeqs, keptLists, keptOut, packed, deniedAs, heldStep, stepAnswer, stateStepped}
 use Rattle.keel.specs.Report.{reportBytes}
-use Rattle.keel.proofs.Laws.{load-save, held-high, held-passed, Took, took, at-rest, refused-unit}
+use Rattle.keel.proofs.Laws.{held-high, held-passed, Took, took, at-rest}
 
 -- ── an answer's length
 reply-short : (k : Telecommand) (u : Unit) (time : ℕ) (seqs lists p : List ℕ) → length (reply k u time seqs lists p) ≤ 16384
@@ -69,28 +71,6 @@ module _ (u : Unit) (time : ℕ) (seqs lists out p : List ℕ) (a : Answer) (e :
   unfolding answerOf unitAfter refusedUnit
   answer-kept h = let k = rw e at h in rw e (simp (ne-eqb (codeOf flight u seqs lists out p) 0 (λ z. omega arith), le-leb 16 (codeOf flight u seqs lists out p) k))
 
-  -- a refused packet: the ledger alone is written
-  pub answer-refused : (s : List ℕ) → s ≡ stateOf u → (a .code ≡ 0 → ⊥) → ledgerOver (a .unit .ledger) s ≡ stateOf (a .unit)
-  unfolding stateOf answerOf
-  answer-refused s same n =
-      let part = refused-unit u seqs lists out p (λ z. n (ap (λ (x : Answer). x .code) e ∙ z)) in
-      rw (same, e) (ap stateOf part)
-
-  pub answer-obeyed : a .code ≡ 0 → a .unit ≡ obeyedUnit (commandOf p) p u
-  unfolding answerOf unitAfter
-  answer-obeyed z = let k = rw e at z in rw e (simp k)
-
--- what a mode change writes, whether it starts, stops or neither
-pub mode-written : (p : List ℕ) (u : Unit) → let v = obeyedUnit Mode p u in
-    runOver (v .watch) (v .runner) (placeOver (v .runner) (set (logOver (v .ledger) (stateOf u)) 0 (v .control .mode))) ≡ stateOf v
-unfolding stateOf effect obeyedUnit moded
-mode-written p u =
-    let P : Unit → Type 0 =
-    λ w.
-    let v = withControl (withMode (byteAt p 1) (u .control)) w in
-    runOver (v .watch) (v .runner) (placeOver (v .runner) (set (logOver (v .ledger) (stateOf u)) 0 (v .control .mode))) ≡ stateOf v in
-    either P (eqb (byteAt p 1) 3) _ _ refl (either P (u .runner .running) _ _ refl refl)
-
 module _ (s : List ℕ) (time : ℕ) (seqs lists out p : List ℕ) where
   abbrev pub Answered : ℕ → List ℕ → List ℕ → List ℕ → List ℕ → Type 0
   Answered r s' seqs' lists' out' =
@@ -118,11 +98,11 @@ module _ (s : List ℕ) (time : ℕ) (seqs lists out p : List ℕ) where
       stands s' f =
           simp (← holds, none, ← read, f, e .1 .0, e .1 .1 .0, e .1 .1 .1, e .0, twice, over) (refl, (refl, (refl, (refl, refl))))
 
-      pub answered : (s' : List ℕ) → Octets s → AnswerWritten a p s s' → Answered (a .code + 256 * a .size) s' seqs' lists' out'
+      pub answered : (s' : List ℕ) → Octets s → s' ≡ answerOver a p s → Answered (a .code + 256 * a .size) s' seqs' lists' out'
       answered s' o w =
           let (sized, (flags, fits)) = held-passed lent s (sym told ∙ none) in
           let same : s ≡ stateOf u = sym (ap stateOf read ∙ load-save s sized o flags) in
-          let f = w u time seqs lists out same (e .0) in
+          let f : s' ≡ stateOf (a .unit) = w ∙ rw (same, e .0) (answer-saved flight u time seqs lists out p) in
           stands s' (decided (leb 16 (a .code)) s' s (stateOf (a .unit)) (λ h. f ∙ ap stateOf (answer-kept u time seqs lists out p a (e .0) (leb-true 16 (a .code) h)) ∙ sym same) f)
 
 -- ── a step
@@ -163,10 +143,10 @@ module _ (s seqs lists : List ℕ) where
         idles octets h = sees (stepped (Saw Idle) u) (sym (simp h at rests)) Idle s refl (same octets)
 
       -- a unit that runs: what the event moves is written
-      pub moves-on : (r : UnitStep) → r ≡ unitStep flight u seqs lists → Octets s → (event : Event) → r .outcome ≡ Saw event → (s' : List ℕ) → StepWritten event (r .unit .watch) (r .unit .runner) s s' → Stepped (packed (shownAs (r .unit .watch .exposures) event)) s'
+      pub moves-on : (r : UnitStep) → r ≡ unitStep flight u seqs lists → Octets s → (event : Event) → r .outcome ≡ Saw event → (s' : List ℕ) → s' ≡ stepOver event (r .unit) s → Stepped (packed (shownAs (r .unit .watch .exposures) event)) s'
       moves-on r e octets event saw s' f =
-          let k : Took u r event = rw e (took u seqs lists event (rw e at saw)) in
-          sees r e event s' saw (f u (same octets) (k .watch) (k .runner) ∙ ap stateOf (k .part))
+          let k : Took u event (r .unit) = rw e (took u seqs lists event (rw e at saw)) in
+          sees r e event s' saw (f ∙ rw (same octets) (ap (λ (v : Unit). stepOver event v (stateOf u)) k ∙ step-saved event u (r .unit .runner) ∙ ap stateOf (sym k)))
 
 -- ── power-on
 pub powers : (s : List ℕ) → length s ≡ 32 → written s 0 (stateOf powerOn) ≡ stateOf powerOn

@@ -1,14 +1,12 @@
 -- The calls of the library for C. "A state not of 32 bytes is 16. 16 and 17 leave every lent byte as it was."
 use Prim.Native.Nat.{ℕ, _+_, _*_, _^_}
-use mathlib.Core.Bool.{Bool, true, false, cond, not, _||_}
-use mathlib.Core.List.{List, [], _∷_, _++_}
+use mathlib.Core.Bool.{Bool, cond, not}
+use mathlib.Core.List.{List, [], _∷_}
 use lib.Dec.{leb, eqb}
 use lib.ListN.{length, getD}
 use Rattle.octets.specs.Rows.{Row, row, firstCode}
 use Rattle.memory.specs.Memory.{flight, tablesWrong}
-use Rattle.runner.specs.declared.Event.{Event}
 use Rattle.runner.specs.Events.{Shown, shownAs}
-use Rattle.unit.specs.declared.Unit.{Unit}
 use Rattle.unit.specs.declared.Outcome.{Outcome}
 use Rattle.unit.specs.declared.Outcome.the-variants.{Denied, Saw}
 use Rattle.unit.specs.declared.UnitStep.{UnitStep}
@@ -16,10 +14,7 @@ use Rattle.unit.specs.State.{powerOn}
 use Rattle.unit.specs.Packet.{lentWrong, codeOf}
 use Rattle.unit.specs.Answer.{unitAfter, replyOf, seqsAfter, listsAfter, outAfter}
 use Rattle.unit.specs.Step.{stepped, unitStep}
-use Rattle.keel.specs.State.{unitOf, stateOf, flagsWrong}
-
-abbrev pub stateSized : List ℕ → Bool
-stateSized s = eqb (length s) 32
+use Rattle.state.specs.State.{stateSized, unitOf, stateOf, flagsWrong}
 
 -- ── keel_power_on: 0 or 16
 abbrev pub powerCode : List ℕ → ℕ

@@ -1,4 +1,2 @@
-pub mod State
-pub mod Parts
 pub mod Calls
 pub mod Report

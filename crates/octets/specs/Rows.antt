@@ -1,7 +1,7 @@
 -- Refusals as an ordered table: rows of a code and a test. The answer is the code of the first row that holds, else 0.
 use Prim.Native.Nat.{ℕ}
 use mathlib.Core.Path.{_≡_}
-use mathlib.Core.Bool.{Bool, true, false, cond, _&&_}
+use mathlib.Core.Bool.{Bool, true, false, cond, _&&_, _||_}
 use mathlib.Core.List.{List, [], _∷_}
 use mathlib.Core.Logic.{_⊎_}
 use lib.Dec.{ltb}
@@ -32,3 +32,8 @@ FirstBears c (r ∷ rs) = ((r .holds ≡ true) × (r .code ≡ c)) ⊎ ((r .hold
 abbrev pub coded : List Row → Bool
 coded [] = true
 coded (r ∷ rs) = ltb 0 (r .code) && coded rs
+
+-- some test of a list holds
+abbrev pub some : List Bool → Bool
+some [] = false
+some (t ∷ ts) = t || some ts

@@ -1,7 +1,7 @@
 // Bytes of a lent slice, read by anyone at any place: past the end stands 0. Words are unsigned, high byte first.
 ghost use Prim.Native.Nat.{_+_, _*_};
 ghost use mathlib.Core.Path.{_≡_};
-ghost use mathlib.Core.Bool.{cond, _||_};
+ghost use mathlib.Core.Bool.{cond, _&&_, _||_};
 ghost use lib.ListN.{take, drop};
 ghost use Rattle.octets.specs.Bytes.{byteAt, wordAt, tripleAt, xorOn};
 
@@ -79,4 +79,11 @@ pub fn either(test: bool, rest: bool) -> bool
     ensures { λ r. ⌜ r ≡ (test || rest) ⌝ }
 {
     if test { true } else { rest }
+}
+
+// Whether two tests hold.
+pub fn both(test: bool, rest: bool) -> bool
+    ensures { λ r. ⌜ r ≡ (test && rest) ⌝ }
+{
+    if test { rest } else { false }
 }

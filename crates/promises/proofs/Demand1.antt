@@ -19,10 +19,12 @@ use Rattle.runner.proofs.Laws.{step-idle}
 use Rattle.unit.specs.declared.Unit.{Unit as ControlUnit}
 use Rattle.unit.specs.declared.Outcome.the-variants.{Denied, Saw}
 use Rattle.unit.specs.declared.UnitStep.{UnitStep}
-use Rattle.unit.specs.State.{withLedger, arrived, failed}
-use Rattle.unit.specs.declared.Telecommand.{Telecommand}
-use Rattle.unit.specs.declared.Telecommand.the-variants.{Status, Dump, Allow, Mode, Clear, Select, Uplink, Foreign, Unheard}
-use Rattle.unit.specs.Packet.{telecommandOf, ownRows, packetRows, codeOf}
+use Rattle.status.specs.State.{arrived, failed}
+use Rattle.unit.specs.State.{withLedger}
+use Rattle.telecommand.specs.declared.Telecommand.{Telecommand}
+use Rattle.telecommand.specs.declared.Telecommand.the-variants.{Status, Dump, Allow, Mode, Clear, Select, Uplink, Foreign, Unheard}
+use Rattle.telecommand.specs.Packet.{telecommandOf}
+use Rattle.unit.specs.Packet.{ownRows, packetRows, codeOf}
 use Rattle.unit.specs.Answer.{refusedUnit, unitAfter, replyOf, answerOf}
 use Rattle.unit.specs.Step.{withStep}
 use Rattle.unit.proofs.Laws.{sixteen-on}

@@ -31,7 +31,7 @@ use Rattle.runner.specs.Step.{to, openOf, entered, begun, advances, exposed, lo
 use Rattle.runner.proofs.Exactly.{run-raster-exactly, expose-exactly, loop-back-exactly, call-exactly, terminate-exactly}
 use Rattle.promises.specs.Library.{ours}
 use Rattle.promises.specs.Demand2.{advanceRows, callRows}
-use Rattle.unit.specs.Step.{watched}
+use Rattle.status.specs.State.{watched}
 use Rattle.promises.specs.EachStep.{here, Obeys, Takes, EnterStep, RasterStep, ExposeAdvances, ExposeStays, LoopJumps, LoopRepeats, LoopCloses, DelayStep, CallRepeats, TerminateRepeats, CallMade, TerminateEnds}
 
 -- a step with this event shows what the event does

@@ -10,6 +10,7 @@ use Rattle.promises.specs.OneAnswer.{
   OneOctetsRefuse,
   OneOctetsPair,
   OneOctetsEither,
+  OneOctetsBoth,
   OneMemoryFormatFlight,
   OneMemoryPlaceOf,
   OneMemoryPlaceNumber,
@@ -47,9 +48,21 @@ use Rattle.promises.specs.OneAnswer.{
   OneRunnerRunnerStep,
   OneSurveyCheck,
   OneSurveyCheckOne,
+  OneTelecommandTelecommandOf,
+  OneTelecommandTelecommandShapeFault,
+  OneTelecommandPairAllowed,
+  OneTelecommandDumpRange,
+  OneTelecommandUplinkRange,
+  OneTelecommandDumped,
+  OneTelecommandUplink,
+  OneStatusCounted,
+  OneStatusLedgerArrived,
+  OneStatusLedgerFailed,
+  OneStatusLedgerCleared,
+  OneStatusWatched,
+  OneStatusPutStatus,
   OneUnitUnitPowerOn,
   OneUnitUnitOutOfRange,
-  OneUnitTelecommandOf,
   OneUnitLentWrong,
   OneUnitUnitPacket,
   OneUnitWindowCode,
@@ -71,6 +84,10 @@ use Rattle.promises.specs.OneAnswer.{
   OneLineIsHex,
   OneLineNumber,
   OneLineReadLine,
+  OneStateUnitOf,
+  OneStateSaveAnswer,
+  OneStateSaveStep,
+  OneStateFlagsWrong,
   OneKeelKeelPowerOn,
   OneKeelKeelPacket,
   OneKeelKeelStep,
@@ -101,6 +118,9 @@ one-result-octets-pair κs a r r′ e e′ p q = p ∙ sym q
 
 pub one-result-octets-either : OneOctetsEither
 one-result-octets-either κs a r r′ e e′ p q = p ∙ sym q
+
+pub one-result-octets-both : OneOctetsBoth
+one-result-octets-both κs a r r′ e e′ p q = p ∙ sym q
 
 -- ── memory
 pub one-result-memory-Format-flight : OneMemoryFormatFlight
@@ -223,15 +243,53 @@ one-result-survey-check κs a r r′ e e′ p q = p ∙ sym q
 pub one-result-survey-check-one : OneSurveyCheckOne
 one-result-survey-check-one κs a r r′ e e′ p q = p ∙ sym q
 
+-- ── telecommand
+pub one-result-telecommand-telecommand-of : OneTelecommandTelecommandOf
+one-result-telecommand-telecommand-of κs a r r′ e e′ p q = p ∙ sym q
+
+pub one-result-telecommand-Telecommand-shape-fault : OneTelecommandTelecommandShapeFault
+one-result-telecommand-Telecommand-shape-fault κs a r r′ e e′ p q = p ∙ sym q
+
+pub one-result-telecommand-pair-allowed : OneTelecommandPairAllowed
+one-result-telecommand-pair-allowed κs a r r′ e e′ p q = p ∙ sym q
+
+pub one-result-telecommand-dump-range : OneTelecommandDumpRange
+one-result-telecommand-dump-range κs a r r′ e e′ p q = p ∙ sym q
+
+pub one-result-telecommand-uplink-range : OneTelecommandUplinkRange
+one-result-telecommand-uplink-range κs a r r′ e e′ p q = p ∙ sym q
+
+pub one-result-telecommand-dumped : OneTelecommandDumped
+one-result-telecommand-dumped κs a r r′ e e′ p q = p ∙ sym q
+
+pub one-result-telecommand-uplink : OneTelecommandUplink
+one-result-telecommand-uplink κs a r r′ e e′ p q = λ i. ((p .0 ∙ sym (q .0)) i, (p .1 ∙ sym (q .1)) i)
+
+-- ── status
+pub one-result-status-counted : OneStatusCounted
+one-result-status-counted κs a r r′ e e′ p q = p ∙ sym q
+
+pub one-result-status-Ledger-arrived : OneStatusLedgerArrived
+one-result-status-Ledger-arrived κs a r r′ e e′ p q = p ∙ sym q
+
+pub one-result-status-Ledger-failed : OneStatusLedgerFailed
+one-result-status-Ledger-failed κs a r r′ e e′ p q = p ∙ sym q
+
+pub one-result-status-Ledger-cleared : OneStatusLedgerCleared
+one-result-status-Ledger-cleared κs a r r′ e e′ p q = p ∙ sym q
+
+pub one-result-status-watched : OneStatusWatched
+one-result-status-watched κs a r r′ e e′ p q = p ∙ sym q
+
+pub one-result-status-put-status : OneStatusPutStatus
+one-result-status-put-status κs a r r′ e e′ p q = p ∙ sym q
+
 -- ── unit
 pub one-result-unit-Unit-power-on : OneUnitUnitPowerOn
 one-result-unit-Unit-power-on κs a r r′ e e′ p q = p ∙ sym q
 
 pub one-result-unit-Unit-out-of-range : OneUnitUnitOutOfRange
 one-result-unit-Unit-out-of-range κs a r r′ e e′ p q = p ∙ sym q
-
-pub one-result-unit-telecommand-of : OneUnitTelecommandOf
-one-result-unit-telecommand-of κs a r r′ e e′ p q = p ∙ sym q
 
 pub one-result-unit-lent-wrong : OneUnitLentWrong
 one-result-unit-lent-wrong κs a r r′ e e′ p q = p ∙ sym q
@@ -290,6 +348,19 @@ one-result-line-number κs a r r′ e e′ p q = p ∙ sym q
 
 pub one-result-line-read-line : OneLineReadLine
 one-result-line-read-line κs a r r′ e e′ p q = λ i. ((p .0 ∙ sym (q .0)) i, (p .1 ∙ sym (q .1)) i)
+
+-- ── state
+pub one-result-state-unit-of : OneStateUnitOf
+one-result-state-unit-of κs a r r′ e e′ p q = p ∙ sym q
+
+pub one-result-state-save-answer : OneStateSaveAnswer
+one-result-state-save-answer κs a r r′ e e′ p q = p ∙ sym q
+
+pub one-result-state-save-step : OneStateSaveStep
+one-result-state-save-step κs a r r′ e e′ p q = p ∙ sym q
+
+pub one-result-state-flags-wrong : OneStateFlagsWrong
+one-result-state-flags-wrong κs a r r′ e e′ p q = p ∙ sym q
 
 -- ── keel
 pub one-result-keel-keel-power-on : OneKeelKeelPowerOn

@@ -30,7 +30,8 @@ use Rattle.unit.specs.declared.Unit.{Unit as ControlUnit}
 use Rattle.unit.specs.declared.Outcome.{Outcome}
 use Rattle.unit.specs.declared.Outcome.the-variants.{Denied, Saw}
 use Rattle.unit.specs.State.{powerOn, runsWrong, rangeTests, outOfRange, moded, selected}
-use Rattle.unit.specs.Packet.{telecommandOf, ownRows, lentWrong, packetRows, codeOf}
+use Rattle.telecommand.specs.Packet.{telecommandOf}
+use Rattle.unit.specs.Packet.{ownRows, lentWrong, packetRows, codeOf}
 use Rattle.unit.specs.Answer.{effect, obeyedUnit, refusedUnit, unitAfter, answerOf, seqsAfter, listsAfter}
 use Rattle.unit.specs.Step.{stepRows, withStep, unitStep}
 use Rattle.promises.specs.Library.{Library, ours}

@@ -21,10 +21,12 @@ use Rattle.runner.specs.Step.{aborted, entered, begun, advances, exposed, loope
 use Rattle.survey.specs.Walk.{walked, walk, checkOne}
 use Rattle.survey.specs.Chain.{onward, follow, chainOf, checkRows, checkOf}
 use Rattle.survey.proofs.Samples.{toldNumbers}
-use Rattle.unit.specs.declared.Log.{Log}
+use Rattle.status.specs.declared.Log.{Log}
 use Rattle.unit.specs.declared.Answer.{Answer}
 use Rattle.unit.specs.State.{powerOn, runsWrong, rangeTests, outOfRange}
-use Rattle.unit.specs.Packet.{telecommandOf, ownRows, lentWrong, packetRows, codeOf}
+use Rattle.telecommand.specs.Packet.{telecommandOf}
+use Rattle.unit.specs.Packet.{ownRows, lentWrong, packetRows, codeOf}
+use Rattle.unit.specs.Status.{statusOf}
 use Rattle.unit.specs.Answer.{effect, obeyedUnit, reply, refusedUnit, unitAfter, replyOf, answerOf}
 use Rattle.promises.specs.Runs.{positionsSeen, sightsOf}
 use Rattle.promises.specs.Demand3.{chainPlan, exposedPositions}
@@ -58,6 +60,10 @@ answerNumbers a = a .code ∷ a .size ∷ logNumbers (a .unit .ledger .log)
 
 abbrev sent : List ℕ → List ℕ
 sent packet = answerNumbers (answerOf flight powerOn 0 (seqs []) (lists []) (seqs []) packet)
+
+-- the bytes that answer it
+abbrev repliedTo : List ℕ → List ℕ
+repliedTo packet = replyOf flight powerOn 0 (seqs []) (lists []) (seqs []) packet
 
 -- ── the rows
 -- every field of a raster, word by word
@@ -104,13 +110,17 @@ samples =
     (0x111B ∷ 0x252F ∷ 0x3943 ∷ 0x4D57 ∷ 0x61 ∷ 0x6B ∷ 0x75 ∷ 0x7F ∷ 0x8 ∷ 0x9 ∷ 0x93 ∷ 0x9 ∷ 0xDA7 ∷ 0xB1 ∷ 0xBB ∷ 0xC5CF ∷ 0xD9 ∷ 0xE3 ∷ [])
     -- "Count 128 at 0x073F80 fits; at 0x073F81, code 7." A dump, and an uplink
     ∷ sample (sent (0x07 ∷ 0x07 ∷ 0x3F ∷ 0x80 ∷ 0x00 ∷ 0x00 ∷ 0x80 ∷ [])) (0 ∷ 128 ∷ 0x07 ∷ 0x07 ∷ 0x3F ∷ 0x07 ∷ [])
+    ∷ sample (repliedTo (0x07 ∷ 0x07 ∷ 0x3F ∷ 0x80 ∷ 0x00 ∷ 0x00 ∷ 0x80 ∷ [])) (replicate 128 0)
     ∷ sample (sent (0x07 ∷ 0x07 ∷ 0x3F ∷ 0x81 ∷ 0x00 ∷ 0x00 ∷ 0x80 ∷ [])) (7 ∷ 0 ∷ 0x07 ∷ 0x07 ∷ 0x3F ∷ 0x07 ∷ [])
     ∷ sample (sent (0xE7 ∷ 0x07 ∷ 0x3F ∷ 0x80 ∷ 0x80 ∷ replicate 128 0xAA)) (0 ∷ 0 ∷ 0xE7 ∷ 0x07 ∷ 0x3F ∷ 0x85 ∷ [])
     ∷ sample (sent (0xE7 ∷ 0x07 ∷ 0x3F ∷ 0x81 ∷ 0x80 ∷ replicate 128 0xAA)) (7 ∷ 0 ∷ 0xE7 ∷ 0x07 ∷ 0x3F ∷ 0x85 ∷ [])
     -- "Uplink of 100 bytes to 0x060000 by E5: code 6, log E5 06 00 69."
     ∷ sample (sent (0xE5 ∷ 0x06 ∷ 0x00 ∷ 0x00 ∷ 0x64 ∷ replicate 100 0xAA)) (6 ∷ 0 ∷ 0xE5 ∷ 0x06 ∷ 0x00 ∷ 0x69 ∷ [])
+    -- the power-on status, which is not logged: mode 1, one request, byte 17; the rest 0
+    ∷ sample (sent (0x01 ∷ [])) (0 ∷ 104 ∷ 0 ∷ 0 ∷ 0 ∷ 0 ∷ [])
+    ∷ sample (repliedTo (0x01 ∷ [])) (0x01 ∷ 0x00 ∷ 0x00 ∷ 0x64 ∷ 0x10 ∷ 0x10 ∷ 0x00 ∷ 0x01 ∷ replicate 13 0 ++ (0x22 ∷ replicate 82 0))
     ∷ []
 
 pub samples-right : allRight samples ≡ true
-unfolding xorOn tablesWrong rangeOf rangeAt limit lengthGood xorGood headerRows headerOf sizeOf decoded noneThere commandAt sizeAt starts startsOf among exposesBetween firstExposure targetGood rasterAt flagsGood somePast listCard pathRows rasterRows runRows exposeRows loopRows closeRows judged judge aborted entered begun advances exposed looped delayed called ended act stepIn stepOf walked walk checkOne onward follow chainOf checkRows checkOf powerOn runsWrong rangeTests outOfRange telecommandOf ownRows lentWrong packetRows codeOf effect obeyedUnit reply refusedUnit unitAfter replyOf answerOf sightsOf
+unfolding xorOn tablesWrong rangeOf rangeAt limit lengthGood xorGood headerRows headerOf sizeOf decoded noneThere commandAt sizeAt starts startsOf among exposesBetween firstExposure targetGood rasterAt flagsGood somePast listCard pathRows rasterRows runRows exposeRows loopRows closeRows judged judge aborted entered begun advances exposed looped delayed called ended act stepIn stepOf walked walk checkOne onward follow chainOf checkRows checkOf powerOn runsWrong rangeTests outOfRange telecommandOf ownRows lentWrong packetRows codeOf statusOf effect obeyedUnit reply refusedUnit unitAfter replyOf answerOf sightsOf
 samples-right = refl

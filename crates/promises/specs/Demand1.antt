@@ -10,7 +10,7 @@ use Rattle.memory.specs.declared.Format.{Format}
 use Rattle.sequence.specs.Starts.{among}
 use Rattle.unit.specs.declared.Unit.{Unit as ControlUnit}
 use Rattle.unit.specs.declared.Outcome.the-variants.{Denied}
-use Rattle.unit.specs.State.{counted, logOf}
+use Rattle.status.specs.State.{counted, logOf}
 use Rattle.promises.specs.Library.{Library}
 use Rattle.promises.specs.Runs.{idle, Showing}
 use Rattle.promises.specs.Sent.{Sent, code, unitLeft, TablesKept, NoAnswer}

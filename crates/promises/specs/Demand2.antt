@@ -27,13 +27,16 @@ use Rattle.survey.specs.declared.Ending.the-variants.{Unlisted}
 use Rattle.survey.specs.Walk.{findingOf}
 use Rattle.survey.specs.Chain.{told, chainOf, checkRows}
 use Rattle.unit.specs.declared.Unit.{Unit as ControlUnit}
-use Rattle.unit.specs.declared.Telecommand.{Telecommand}
-use Rattle.unit.specs.declared.Telecommand.the-variants.{Status, Dump, Allow, Mode, Clear, Select, Uplink, Foreign, Unheard}
+use Rattle.telecommand.specs.declared.Telecommand.{Telecommand}
+use Rattle.telecommand.specs.declared.Telecommand.the-variants.{Status, Dump, Allow, Mode, Clear, Select, Uplink, Foreign, Unheard}
 use Rattle.unit.specs.declared.Outcome.the-variants.{Denied, Saw}
-use Rattle.unit.specs.State.{counted, logOf, outOfRange}
-use Rattle.unit.specs.Packet.{telecommandOf, packetRows}
-use Rattle.unit.specs.Status.{orZero, statusOf}
-use Rattle.unit.specs.Step.{watched, stepRows}
+use Rattle.status.specs.State.{counted, logOf, watched}
+use Rattle.unit.specs.State.{outOfRange}
+use Rattle.telecommand.specs.Packet.{telecommandOf}
+use Rattle.unit.specs.Packet.{packetRows}
+use Rattle.status.specs.Status.{orZero}
+use Rattle.unit.specs.Status.{statusOf}
+use Rattle.unit.specs.Step.{stepRows}
 use Rattle.promises.specs.Library.{Library}
 use Rattle.promises.specs.Runs.{ShownAs, Showing, idle, aborts, quiet}
 use Rattle.promises.specs.Sent.{Sent, answerTo, code, unitLeft, seqsLeft, listsLeft, outLeft, bc1, bc2, TablesKept, NoAnswer, Logged}

@@ -19,8 +19,8 @@ use Rattle.runner.specs.Judge.{isOpen, setOf}
 use Rattle.runner.specs.Events.{Shown, shows, shownAs}
 use Rattle.runner.specs.Step.{openOf}
 use Rattle.runner.specs.With.{withSequence, withPlace, withRunning, withEntering, withRaster, withRounds, withMirror, openAt, withCount, withPasses, withRepeats}
-use Rattle.unit.specs.declared.Watch.{Watch}
-use Rattle.unit.specs.Step.{watched}
+use Rattle.status.specs.declared.Watch.{Watch}
+use Rattle.status.specs.State.{watched}
 use Rattle.promises.specs.Library.{Library}
 use Rattle.promises.specs.Demand2.{commandRows}
 

@@ -27,13 +27,18 @@ use Rattle.runner.specs.declared.Stepped.{Stepped}
 use Rattle.survey.proofs as survey
 use Rattle.survey.specs.declared.Report.{Report}
 use Rattle.survey.specs.declared.Walked.{Walked}
+use Rattle.telecommand.proofs as telecommand
+use Rattle.status.proofs as status
+use Rattle.status.specs.declared.Ledger.{Ledger}
+use Rattle.status.specs.declared.Watch.{Watch}
 use Rattle.unit.proofs as unit
 use Rattle.line.proofs as line
 use Rattle.line.specs.declared.Line.{Line}
 use Rattle.line.specs.declared.Numeral.{Numeral}
+use Rattle.state.proofs as state
 use Rattle.keel.proofs as keel
 use Rattle.unit.specs.declared.Unit.{Unit as ControlUnit}
-use Rattle.unit.specs.declared.Telecommand.{Telecommand}
+use Rattle.telecommand.specs.declared.Telecommand.{Telecommand}
 use Rattle.unit.specs.declared.Answer.{Answer}
 use Rattle.unit.specs.declared.UnitStep.{UnitStep}
 
@@ -70,6 +75,9 @@ OneOctetsPair = One ℕ octets.pair.Kinds.ps octets.pair.Kinds.r octets.pair.Rea
 
 abbrev pub OneOctetsEither : Type 0
 OneOctetsEither = One Bool octets.either.Kinds.ps octets.either.Kinds.r octets.either.Reads.Learnt (λ κs r e. r)
+
+abbrev pub OneOctetsBoth : Type 0
+OneOctetsBoth = One Bool octets.both.Kinds.ps octets.both.Kinds.r octets.both.Reads.Learnt (λ κs r e. r)
 
 -- ── memory
 abbrev pub OneMemoryFormatFlight : Type 0
@@ -192,15 +200,53 @@ OneSurveyCheck = One Report survey.check.Kinds.ps survey.check.Kinds.r survey.ch
 abbrev pub OneSurveyCheckOne : Type 0
 OneSurveyCheckOne = One Walked survey.check_one.Kinds.ps survey.check_one.Kinds.r survey.check_one.Reads.Learnt (λ κs r e. r)
 
+-- ── telecommand
+abbrev pub OneTelecommandTelecommandOf : Type 0
+OneTelecommandTelecommandOf = One Telecommand telecommand.telecommand_of.Kinds.ps telecommand.telecommand_of.Kinds.r telecommand.telecommand_of.Reads.Learnt (λ κs r e. r)
+
+abbrev pub OneTelecommandTelecommandShapeFault : Type 0
+OneTelecommandTelecommandShapeFault = One ℕ telecommand.Telecommand.shape_fault.Kinds.ps telecommand.Telecommand.shape_fault.Kinds.r telecommand.Telecommand.shape_fault.Reads.Learnt (λ κs r e. r)
+
+abbrev pub OneTelecommandPairAllowed : Type 0
+OneTelecommandPairAllowed = One Bool telecommand.pair_allowed.Kinds.ps telecommand.pair_allowed.Kinds.r telecommand.pair_allowed.Reads.Learnt (λ κs r e. r)
+
+abbrev pub OneTelecommandDumpRange : Type 0
+OneTelecommandDumpRange = One Range telecommand.dump_range.Kinds.ps telecommand.dump_range.Kinds.r telecommand.dump_range.Reads.Learnt (λ κs r e. r)
+
+abbrev pub OneTelecommandUplinkRange : Type 0
+OneTelecommandUplinkRange = One Range telecommand.uplink_range.Kinds.ps telecommand.uplink_range.Kinds.r telecommand.uplink_range.Reads.Learnt (λ κs r e. r)
+
+abbrev pub OneTelecommandDumped : Type 0
+OneTelecommandDumped = One (List ℕ) telecommand.dumped.Kinds.ps telecommand.dumped.Kinds.r telecommand.dumped.Reads.Learnt (λ κs r e. now r)
+
+abbrev pub OneTelecommandUplink : Type 0
+OneTelecommandUplink = One (List ℕ × List ℕ) telecommand.uplink.Kinds.ps telecommand.uplink.Kinds.r telecommand.uplink.Reads.Learnt (λ κs r (_, (seqs, (lists, _))). (now seqs, now lists))
+
+-- ── status
+abbrev pub OneStatusCounted : Type 0
+OneStatusCounted = One ℕ status.counted.Kinds.ps status.counted.Kinds.r status.counted.Reads.Learnt (λ κs r e. r)
+
+abbrev pub OneStatusLedgerArrived : Type 0
+OneStatusLedgerArrived = One Ledger status.Ledger.arrived.Kinds.ps status.Ledger.arrived.Kinds.r status.Ledger.arrived.Reads.Learnt (λ κs r e. r)
+
+abbrev pub OneStatusLedgerFailed : Type 0
+OneStatusLedgerFailed = One Ledger status.Ledger.failed.Kinds.ps status.Ledger.failed.Kinds.r status.Ledger.failed.Reads.Learnt (λ κs r e. r)
+
+abbrev pub OneStatusLedgerCleared : Type 0
+OneStatusLedgerCleared = One Ledger status.Ledger.cleared.Kinds.ps status.Ledger.cleared.Kinds.r status.Ledger.cleared.Reads.Learnt (λ κs r e. r)
+
+abbrev pub OneStatusWatched : Type 0
+OneStatusWatched = One Watch status.watched.Kinds.ps status.watched.Kinds.r status.watched.Reads.Learnt (λ κs r e. r)
+
+abbrev pub OneStatusPutStatus : Type 0
+OneStatusPutStatus = One (List ℕ) status.put_status.Kinds.ps status.put_status.Kinds.r status.put_status.Reads.Learnt (λ κs r (_, (_, (_, (_, (_, (out, _)))))). now out)
+
 -- ── unit
 abbrev pub OneUnitUnitPowerOn : Type 0
 OneUnitUnitPowerOn = One ControlUnit unit.Unit.power_on.Kinds.ps unit.Unit.power_on.Kinds.r unit.Unit.power_on.Reads.Learnt (λ κs r e. r)
 
 abbrev pub OneUnitUnitOutOfRange : Type 0
 OneUnitUnitOutOfRange = One Bool unit.Unit.out_of_range.Kinds.ps unit.Unit.out_of_range.Kinds.r unit.Unit.out_of_range.Reads.Learnt (λ κs r e. r)
-
-abbrev pub OneUnitTelecommandOf : Type 0
-OneUnitTelecommandOf = One Telecommand unit.telecommand_of.Kinds.ps unit.telecommand_of.Kinds.r unit.telecommand_of.Reads.Learnt (λ κs r e. r)
 
 abbrev pub OneUnitLentWrong : Type 0
 OneUnitLentWrong = One Bool unit.lent_wrong.Kinds.ps unit.lent_wrong.Kinds.r unit.lent_wrong.Reads.Learnt (λ κs r e. r)
@@ -259,6 +305,19 @@ OneLineNumber = One Numeral line.number.Kinds.ps line.number.Kinds.r line.number
 
 abbrev pub OneLineReadLine : Type 0
 OneLineReadLine = One (Line × List ℕ) line.read_line.Kinds.ps line.read_line.Kinds.r line.read_line.Reads.Learnt (λ κs r (_, (bytes, _)). (r, now bytes))
+
+-- ── state
+abbrev pub OneStateUnitOf : Type 0
+OneStateUnitOf = One ControlUnit state.unit_of.Kinds.ps state.unit_of.Kinds.r state.unit_of.Reads.Learnt (λ κs r e. r)
+
+abbrev pub OneStateSaveAnswer : Type 0
+OneStateSaveAnswer = One (List ℕ) state.save_answer.Kinds.ps state.save_answer.Kinds.r state.save_answer.Reads.Learnt (λ κs r (_, (_, (bytes, _))). now bytes)
+
+abbrev pub OneStateSaveStep : Type 0
+OneStateSaveStep = One (List ℕ) state.save_step.Kinds.ps state.save_step.Kinds.r state.save_step.Reads.Learnt (λ κs r (_, (_, (bytes, _))). now bytes)
+
+abbrev pub OneStateFlagsWrong : Type 0
+OneStateFlagsWrong = One Bool state.flags_wrong.Kinds.ps state.flags_wrong.Kinds.r state.flags_wrong.Reads.Learnt (λ κs r e. r)
 
 -- ── keel
 abbrev pub OneKeelKeelPowerOn : Type 0

@@ -13,9 +13,10 @@ use Rattle.sequence.specs.Env.{envOf}
 use Rattle.runner.proofs as runner
 use Rattle.survey.proofs as survey
 use Rattle.survey.specs.Report.{reportOf}
+use Rattle.telecommand.proofs as telecommand
 use Rattle.unit.proofs as unit
 use Rattle.unit.specs.State.{outOfRange}
-use Rattle.unit.specs.Packet.{telecommandOf}
+use Rattle.telecommand.specs.Packet.{telecommandOf}
 use Rattle.promises.specs.Library.{ours}
 use Rattle.promises.specs.Sent.{Sent, answerTo, seqsLeft, listsLeft, outLeft}
 
@@ -66,5 +67,5 @@ OutOfRangeIs = Called unit.Unit.out_of_range.Kinds.ps unit.Unit.out_of_range.Kin
     (λ κs (self, (format, _)) result exit. result ≡ outOfRange format self)
 
 abbrev pub TelecommandIs : Type 0
-TelecommandIs = Called unit.telecommand_of.Kinds.ps unit.telecommand_of.Kinds.r unit.telecommand_of.Reads.Learnt
+TelecommandIs = Called telecommand.telecommand_of.Kinds.ps telecommand.telecommand_of.Kinds.r telecommand.telecommand_of.Reads.Learnt
     (λ κs (number, _) result exit. result ≡ telecommandOf number)

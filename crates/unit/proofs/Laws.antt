@@ -1,72 +1,26 @@
 -- Laws of packets over the definitions alone: which codes there are, when a packet is obeyed, and what a refusal leaves. Assumes nothing.
 use Prim.Native.Nat.{ℕ, _≤_}
 use native.Mathlib.Omega.{arith}
-use mathlib.Core.Path.{_≡_, refl, sym, ap, subst, _∙_}
-use mathlib.Core.Bool.{Bool, true, false, cond, not, _&&_, _||_, true≢false}
+use mathlib.Core.Path.{_≡_, refl}
+use mathlib.Core.Bool.{Bool, true, false, cond, _&&_}
 use mathlib.Core.List.{List, [], _∷_, _++_}
 use mathlib.Core.Logic.{_↔_, _⊎_, inl, inr}
-use lib.Dec.{T, ltb, leb, eqb}
+use lib.Dec.{T, ltb, leb}
 use lib.ListN.{length, drop}
-use borrow.Author.Tests.{ltb-false, leb-true, le-leb, ne-eqb, eqb-true}
-use mir.Val.{hasKey}
-use types.Run.{OneOf, miss}
-use denote.Enum.Declared.{tagOf}
-use Rattle.octets.specs.Layout.{tiles}
+use borrow.Author.Tests.{ltb-false, leb-true, le-leb, ne-eqb}
 use Rattle.octets.specs.Rows.{Row, firstCode, NoneHolds, coded as noZero}
 use Rattle.octets.proofs.Laws.{none-split, obeyed-exactly}
 use Rattle.octets.proofs.Bools.{and-T, or-neither, either}
 use Rattle.memory.specs.declared.Format.{Format}
 use Rattle.memory.specs.Memory.{tablesWrong}
+use Rattle.status.specs.declared.Ledger.{Ledger}
+use Rattle.telecommand.specs.declared.Telecommand.{Telecommand}
+use Rattle.telecommand.specs.declared.Telecommand.the-variants.{Status, Dump, Allow, Mode, Clear, Select, Uplink, Foreign, Unheard}
+use Rattle.telecommand.specs.Packet.{telecommandOf, commandOf, shapeRows}
 use Rattle.unit.specs.declared.Unit.{Unit}
-use Rattle.unit.specs.declared.Ledger.{Ledger}
-use Rattle.unit.specs.declared.Telecommand.{Telecommand}
-use Rattle.unit.specs.declared.Telecommand.the-variants.{Status, Dump, Allow, Mode, Clear, Select, Uplink, Foreign, Unheard}
-use Rattle.unit.proofs.Telecommand.{the-type}
 use Rattle.unit.specs.State.{withLedger, outOfRange}
-use Rattle.unit.specs.Packet.{bc1Of, is, numbered, telecommandOf, ownRows, commandOf, lentWrong, arrivalRows, shapeRows, packetRows, codeOf}
-use Rattle.unit.specs.Status.{statusFields}
+use Rattle.unit.specs.Packet.{ownRows, lentWrong, arrivalRows, packetRows, codeOf}
 use Rattle.unit.specs.Answer.{refusedUnit, unitAfter, replyOf, seqsAfter, listsAfter, outAfter}
-
--- ── commands
-named : (k : Telecommand) → telecommandOf (bc1Of k) ≡ k
-unfolding telecommandOf
-named Status = refl
-named Dump = refl
-named Allow = refl
-named Mode = refl
-named Clear = refl
-named Select = refl
-named Uplink = refl
-named Foreign = refl
-named Unheard = refl
-
-pub told : (k : Telecommand) {n : ℕ} → n ≡ bc1Of k → k ≡ telecommandOf n
-told k e = sym (named k) ∙ ap telecommandOf (sym e)
-
-same : (c k : Telecommand) → bc1Of k ≡ bc1Of c → k ≡ c
-same c k e = sym (named k) ∙ ap telecommandOf e ∙ named c
-
-pub is-told : (c k : Telecommand) → is c k ≡ true → k ≡ c
-is-told c k e = same c k (eqb-true (bc1Of k) (bc1Of c) e)
-
--- a BC1 that is taken for one of some commands, and not for another, is its number
-pub numbers : (n : ℕ) (ks : List Telecommand) (other k : Telecommand) → (other ≡ k → ⊥) → numbered n ks other ≡ k → n ≡ bc1Of k
-numbers n [] other k d e = absurd (d e)
-numbers n (c ∷ ks) other k d e = go (eqb n (bc1Of c)) refl (numbers n ks other k d) e
-  where
-    go : (b : Bool) → eqb n (bc1Of c) ≡ b → (numbered n ks other ≡ k → n ≡ bc1Of k) → cond b c (numbered n ks other) ≡ k → n ≡ bc1Of k
-    go true t f e = eqb-true n (bc1Of c) t ∙ ap bc1Of e
-    go false t f e = f e
-
--- a command whose variant is among some is none whose variant is not
-pub is-not : (c k : Telecommand) (ks : List ℕ) → T (not (hasKey ks (tagOf the-type c))) → OneOf ks (tagOf the-type k) → is c k ≡ false
-is-not c k ks t h =
-    ne-eqb (bc1Of k) (bc1Of c)
-    (λ e. miss ks (tagOf the-type c) t (subst (λ (x : Telecommand). OneOf ks (tagOf the-type x)) (same c k e) h))
-
--- the status block's fields stand one after another, from 0 to 100
-pub status-tiles : (u : Unit) (time : ℕ) → T (tiles 0 (statusFields u time) 100)
-status-tiles u time = tt
 
 -- ── which codes there are
 -- no row's code is above a number

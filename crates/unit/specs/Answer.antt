@@ -1,20 +1,20 @@
 -- What a packet is answered, and what it leaves in the unit, the tables and the output.
 use Prim.Native.Nat.{ℕ, _+_}
 use mathlib.Core.Bool.{true, cond}
-use mathlib.Core.List.{List, [], _∷_, _++_}
+use mathlib.Core.List.{List, [], _++_}
 use lib.Dec.{leb, eqb}
 use lib.ListN.{length, drop}
 use Rattle.octets.specs.Bytes.{byteAt, tripleAt}
 use Rattle.memory.specs.declared.Format.{Format}
-use Rattle.memory.specs.declared.Range.{Range}
-use Rattle.memory.specs.declared.Range.the-variants.{Wrong}
 use Rattle.memory.specs.Memory.{partOf, seqsWritten, listsWritten}
+use Rattle.telecommand.specs.declared.Telecommand.{Telecommand}
+use Rattle.telecommand.specs.declared.Telecommand.the-variants.{Status, Dump, Allow, Mode, Clear, Select, Uplink, Foreign, Unheard}
+use Rattle.telecommand.specs.Packet.{is, commandOf, dumpRange, writesTo}
 use Rattle.unit.specs.declared.Unit.{Unit}
-use Rattle.unit.specs.declared.Telecommand.{Telecommand}
-use Rattle.unit.specs.declared.Telecommand.the-variants.{Status, Dump, Allow, Mode, Clear, Select, Uplink, Foreign, Unheard}
 use Rattle.unit.specs.declared.Answer.{Answer}
-use Rattle.unit.specs.State.{withLedger, withControl, withWatch, withAllowed, withRequests, withAbort, counted, arrived, failed, cleared, moded, selected}
-use Rattle.unit.specs.Packet.{is, dumpRange, uplinkRange, commandOf, codeOf}
+use Rattle.status.specs.State.{withAllowed, withRequests, withAbort, counted, arrived, failed, cleared}
+use Rattle.unit.specs.State.{withLedger, withControl, withWatch, moded, selected}
+use Rattle.unit.specs.Packet.{codeOf}
 use Rattle.unit.specs.Status.{statusOf}
 
 abbrev pub answer : ℕ → ℕ → Unit → Answer
@@ -47,10 +47,6 @@ reply k u time seqs lists p =
     cond (is Status k) (statusOf (obeyedUnit k p u) time)
     (cond (is Dump k) (partOf seqs lists (tripleAt p 4) (dumpRange p))
     [])
-
--- the range that its data goes into: an uplink's, or none
-abbrev pub writesTo : Telecommand → List ℕ → Range
-writesTo k p = cond (is Uplink k) (uplinkRange p) Wrong
 
 -- ── any packet
 -- "a refused one also adds 1 to TC_FAILED_PKTC .."; "16 and 17 change nothing and aren't counted."

@@ -1,17 +1,16 @@
 -- The unit's state: at power-on, in range, and changed.
-use Prim.Native.Nat.{ℕ, _+_, _%_, _^_}
+use Prim.Native.Nat.{ℕ}
 use mathlib.Core.Bool.{Bool, true, false, cond, not, _&&_, _||_}
 use mathlib.Core.List.{List, [], _∷_}
 use lib.Dec.{ltb, leb, eqb}
-use lib.ListN.{length}
-use Rattle.octets.specs.Bytes.{byteAt}
+use Rattle.octets.specs.Rows.{some}
 use Rattle.memory.specs.declared.Format.{Format}
 use Rattle.runner.specs.declared.Runner.{Runner}
 use Rattle.runner.specs.With.{withSequence, withPlace, withRunning, withEntering, withRaster, openAt}
-use Rattle.unit.specs.declared.Log.{Log}
-use Rattle.unit.specs.declared.Ledger.{Ledger}
-use Rattle.unit.specs.declared.Control.{Control}
-use Rattle.unit.specs.declared.Watch.{Watch}
+use Rattle.status.specs.declared.Ledger.{Ledger}
+use Rattle.status.specs.declared.Control.{Control}
+use Rattle.status.specs.declared.Watch.{Watch}
+use Rattle.status.specs.State.{withMode, withSelection, withExposures, withAbort}
 use Rattle.unit.specs.declared.Unit.{Unit}
 
 -- ── a unit with one part changed
@@ -26,27 +25,6 @@ withWatch x u = record { ledger = u .ledger; control = u .control; watch = x; ru
 
 abbrev pub withRunner : Runner → Unit → Unit
 withRunner x u = record { ledger = u .ledger; control = u .control; watch = u .watch; runner = x }
-
-abbrev pub withMode : ℕ → Control → Control
-withMode x u = record { mode = x; allowed = u .allowed; requests = u .requests; selection = u .selection }
-
-abbrev pub withAllowed : Bool → Control → Control
-withAllowed x u = record { mode = u .mode; allowed = x; requests = u .requests; selection = u .selection }
-
-abbrev pub withRequests : ℕ → Control → Control
-withRequests x u = record { mode = u .mode; allowed = u .allowed; requests = x; selection = u .selection }
-
-abbrev pub withSelection : ℕ → Control → Control
-withSelection x u = record { mode = u .mode; allowed = u .allowed; requests = u .requests; selection = x }
-
-abbrev pub withList : ℕ → Watch → Watch
-withList x u = record { list = x; exposures = u .exposures; abort = u .abort }
-
-abbrev pub withExposures : ℕ → Watch → Watch
-withExposures x u = record { list = u .list; exposures = x; abort = u .abort }
-
-abbrev pub withAbort : ℕ → Watch → Watch
-withAbort x u = record { list = u .list; exposures = u .exposures; abort = x }
 
 -- ── power-on
 -- "At power-on mode is 1, byte 17 is 0x22, the rest of the state is 0 or none."
@@ -76,11 +54,6 @@ isNone n = eqb n 255
 abbrev pub beyond : ℕ → ℕ → Bool
 beyond last n = ltb last n && not (isNone n)
 
--- some test of a list holds
-abbrev pub some : List Bool → Bool
-some [] = false
-some (t ∷ ts) = t || some ts
-
 -- "or running outside AUTO or with selection or status sequence none"
 unfoldable pub runsWrong : Unit → Bool
 runsWrong u =
@@ -106,27 +79,6 @@ rangeTests F u =
 
 unfoldable pub outOfRange : Format → Unit → Bool
 outOfRange F u = some (rangeTests F u)
-
--- ── counts and log
--- "Counters are 16 bits and wrap."
-abbrev pub counted : ℕ → ℕ
-counted n = (n + 1) % 2 ^ 16
-
--- "log: BC1, BC2, BC3 (0 where absent), length (255 if above 133)"
-abbrev pub logOf : List ℕ → Log
-logOf p = record { bc1 = byteAt p 0; bc2 = byteAt p 1; bc3 = byteAt p 2; size = cond (ltb 133 (length p)) 255 (length p) }
-
--- a packet "adds 1 to TC_REC_PKTC and sets the log"
-abbrev pub arrived : List ℕ → Ledger → Ledger
-arrived p l = record { received = counted (l .received); failed = l .failed; code = l .code; number = l .number; log = logOf p }
-
--- a refusal "adds 1 to TC_FAILED_PKTC and sets the failed number (0 if empty) and code"
-abbrev pub failed : ℕ → ℕ → Ledger → Ledger
-failed number code l = record { received = l .received; failed = counted (l .failed); code = code; number = number; log = l .log }
-
--- "failed code, failed number and abort code to 0"
-abbrev pub cleared : Ledger → Ledger
-cleared l = record { received = l .received; failed = l .failed; code = 0; number = 0; log = l .log }
 
 -- ── modes
 -- "2-3 .. starts it: status sequence is the selection, place, exposures and abort code are 0, no raster is open, entering comes first."

@@ -7,30 +7,14 @@ use Rattle.octets.specs.Rows.{Row, row, firstCode}
 use Rattle.memory.specs.declared.Format.{Format}
 use Rattle.memory.specs.Memory.{tablesWrong}
 use Rattle.sequence.specs.Env.{envOf}
-use Rattle.runner.specs.declared.Event.{Event}
-use Rattle.runner.specs.declared.Event.the-variants.{Idle, Enter, Raster, Exp, Loop, Next, Done, Wait, Call, End, Abort}
 use Rattle.runner.specs.declared.Stepped.{Stepped}
 use Rattle.runner.specs.Step.{stepOf}
-use Rattle.unit.specs.declared.Watch.{Watch}
+use Rattle.status.specs.State.{watched}
 use Rattle.unit.specs.declared.Unit.{Unit}
 use Rattle.unit.specs.declared.Outcome.{Outcome}
 use Rattle.unit.specs.declared.Outcome.the-variants.{Denied, Saw}
 use Rattle.unit.specs.declared.UnitStep.{UnitStep}
-use Rattle.unit.specs.State.{withWatch, withRunner, withList, withExposures, withAbort, outOfRange, counted}
-
--- "the status takes the line list"; "exposures since AUTO, wrapping"; "an abort sets place and code"
-abbrev pub watched : Event → Watch → Watch
-watched Idle w = w
-watched (Enter s) w = w
-watched (Raster id pos list) w = withList list w
-watched (Exp pos) w = withExposures (counted (w .exposures)) w
-watched (Loop place) w = w
-watched Next w = w
-watched Done w = w
-watched (Wait t) w = w
-watched (Call s) w = w
-watched End w = w
-watched (Abort code s place) w = withAbort code w
+use Rattle.unit.specs.State.{withWatch, withRunner, outOfRange}
 
 unfoldable pub stepRows : Format → Unit → List ℕ → List ℕ → List Row
 stepRows F u seqs lists = row 16 (tablesWrong seqs lists) ∷ row 17 (outOfRange F u) ∷ []

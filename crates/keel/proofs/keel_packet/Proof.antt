@@ -1,6 +1,5 @@
 -- The bytes refused, or the unit's answer with what it changed written.
-use mathlib.Core.Path.{_∙_, sym}
-use Rattle.keel.proofs.Laws.{held-passed}
+use mathlib.Core.Path.{_∙_}
 use Rattle.keel.proofs.Ways.{short, held-back, answered}
 use borrow.Author.Needs.{needs}
 use Rattle.keel.proofs.keel_packet.Statement.{statement}
@@ -9,9 +8,6 @@ use Rattle.keel.proofs.keel_packet.Tie as tie
 returns : tie.Need-returns
 returns c = let a = c .before .before .before .before .before .before .before .before .before .before .before .before .args in
     held-back (a .state .now) (a .time) (a .seqs .now) (a .lists .now) (a .out .now) (a .packet .now) _ _ (c .before .before .before .lent-wrong .ensures) (c .before .held-code .ensures) (c .if1 .taken)
-
-save-answer-requires : tie.Need-save-answer-requires
-save-answer-requires c κs = held-passed _ _ (sym (c .before .before .before .before .before .before .before .before .before .before .before .before .before .before .before .held-code .ensures) ∙ c .before .before .before .before .before .before .before .before .before .before .before .before .before .before .if1 .left) .0
 
 answer-of-requires : tie.Need-answer-of-requires
 answer-of-requires c κs = let b = c .before .before .before .before .before .before .before .before .before .before in
@@ -37,10 +33,10 @@ keel-packet-spec =
     (λ c. search needs)
     (λ c. search needs)
     returns
-    (λ c κs. held-passed _ _ (sym (c .before .before .held-code .ensures) ∙ c .before .if1 .left) .0)
     (λ c κs. search needs)
     (λ c κs. search needs)
-    save-answer-requires
+    (λ c κs. search needs)
+    (λ c κs. search needs)
     answer-of-requires
     (λ c. search needs)
     (λ c. search needs)

@@ -3,7 +3,7 @@ use mathlib.Core.Path.{_∙_}
 use borrow.Author.Tests.{eq-eqb, ne-eqb}
 use lib.ListN.{length}
 use Rattle.unit.specs.State.{powerOn}
-use Rattle.keel.specs.State.{stateOf}
+use Rattle.state.specs.State.{stateOf}
 use Rattle.keel.proofs.Ways.{powers}
 use borrow.Author.Needs.{needs}
 use Rattle.keel.proofs.keel_power_on.Statement.{statement}

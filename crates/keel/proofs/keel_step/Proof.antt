@@ -2,7 +2,6 @@
 use Rattle.keel.proofs.Ways.{step-held-back, denies, refuses, idles, moves-on}
 use borrow.Author.Tests.{not-true}
 use mathlib.Core.Path.{_∙_, sym}
-use Rattle.keel.proofs.Laws.{held-passed}
 use borrow.Author.Needs.{needs}
 use Rattle.keel.proofs.keel_step.Statement.{statement}
 use Rattle.keel.proofs.keel_step.Tie as tie
@@ -23,9 +22,6 @@ returns-3 c = let b = c .before .before .before .before .before in
     let a = b .before .before .before .before .before .before .before .before .before .args in
     idles (a .state .now) (a .seqs .now) (a .lists .now) _ _ (b .before .before .before .before .before .tables-wrong .ensures) (b .before .before .before .held-code .ensures) (b .before .before .if1 .left) (b .unit-of .result) (b .unit-of .ensures) (not-true (b .unit-of .result .runner .running) (c .before .before .before .if2 .taken)) (λ i. b .before .before .before .before .before .before .before .before .slice-known .given i .fits) (sym (rw (c .before .before .flight .ensures) at (c .before .out-of-range .ensures)) ∙ c .if3 .left)
 
-tell-step-requires : tie.Need-tell-step-requires
-tell-step-requires c κs = held-passed _ _ (sym (c .before .before .before .before .before .before .before .before .before .before .before .before .held-code .ensures) ∙ c .before .before .before .before .before .before .before .before .before .before .before .if1 .left) .0
-
 returns-4 : tie.Need-returns-4
 returns-4 c = let b = c .before .before .before .before .before .before .before .before in
     let a = b .before .before .before .before .before .before .before .before .before .args in
@@ -33,10 +29,10 @@ returns-4 c = let b = c .before .before .before .before .before .before .before 
     (c .denied3 .ensures ∙ x .0, x .1)
 
 returns-5 : tie.Need-returns-5
-returns-5 c = let b = c .before .before .before .before .before .before .before .before .before .before .before .before in
+returns-5 c = let b = c .before .before .before .before .before .before .before .before .before .before .before .before .before in
     let a = b .before .before .before .before .before .before .before .before .before .args in
-    let x = moves-on (a .state .now) (a .seqs .now) (a .lists .now) _ _ (b .before .before .before .before .before .tables-wrong .ensures) (b .before .before .before .held-code .ensures) (b .before .before .if1 .left) (b .unit-of .result) (b .unit-of .ensures) (c .before .before .before .before .before .before .before .before .step .result) (rw (c .before .before .before .before .before .before .before .before .before .flight2 .ensures) at (c .before .before .before .before .before .before .before .before .step .ensures)) (λ i. b .before .before .before .before .before .before .before .before .slice-known .given i .fits) _ (c .before .before .before .before .before .before .outcome2 .given .1) _ (c .before .before .tell-step .ensures .1) in
-    (c .before .before .tell-step .ensures .0 ∙ x .0, x .1)
+    let x = moves-on (a .state .now) (a .seqs .now) (a .lists .now) _ _ (b .before .before .before .before .before .tables-wrong .ensures) (b .before .before .before .held-code .ensures) (b .before .before .if1 .left) (b .unit-of .result) (b .unit-of .ensures) (c .before .before .before .before .before .before .before .before .before .step .result) (rw (c .before .before .before .before .before .before .before .before .before .before .flight2 .ensures) at (c .before .before .before .before .before .before .before .before .before .step .ensures)) (λ i. b .before .before .before .before .before .before .before .before .slice-known .given i .fits) _ (c .before .before .before .before .before .before .before .outcome2 .given .1) _ (c .before .before .before .save-step .ensures) in
+    (c .packed-event .ensures ∙ x .0, x .1)
 
 pub keel-step-spec : {M : Type 1} → statement M
 keel-step-spec =
@@ -47,7 +43,7 @@ keel-step-spec =
     (λ c κs. search needs)
     (λ c. search needs)
     returns
-    (λ c κs. held-passed _ _ (sym (c .before .before .held-code .ensures) ∙ c .before .if1 .left) .0)
+    (λ c κs. search needs)
     (λ c κs. search needs)
     (λ c κs. search needs)
     (λ c κs. search needs)
@@ -60,7 +56,8 @@ keel-step-spec =
     (λ c. search needs)
     (λ c κs. search needs)
     (λ c. search needs)
-    tell-step-requires
+    (λ c κs. search needs)
+    (λ c κs. search needs)
     (λ c. search needs)
     returns-4
     (λ c. search needs)

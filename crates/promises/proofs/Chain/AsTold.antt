@@ -22,6 +22,7 @@ use Rattle.runner.specs.declared.Event.{Event}
 use Rattle.runner.specs.declared.Event.the-variants.{Idle, Enter, Abort}
 use Rattle.runner.specs.Events.{Shown, shownAs}
 use Rattle.runner.specs.Step.{aborted, enteredBy, entered, stepIn, stepOf}
+use Rattle.runner.proofs.Laws.{step-idle}
 use Rattle.survey.specs.declared.Ending.{Ending}
 use Rattle.survey.specs.declared.Ending.the-variants.{Unlisted, Finishes, Returns, Faults}
 use Rattle.survey.specs.Chain.{Told}
@@ -31,7 +32,7 @@ use Rattle.promises.specs.Runs.{ShownAs, idle, quiet, positionsSeen, pos
 use Rattle.promises.specs.Kept.{Ran, AtRest, IsPassed}
 use Rattle.promises.specs.Positions.{NonePast}
 use Rattle.promises.specs.Demand3.{lastOf, Calling, eventsOf, fromEach, landmark, exposedPositions, GoesWell, IsIdle, Works, All, FirstThen, GoesOn, AbortsAt, RunsAsTold}
-use Rattle.promises.proofs.Run.Steps.{door, door-is, step-idle}
+use Rattle.promises.proofs.Run.Steps.{door, door-is}
 use Rattle.promises.proofs.Run.Runs.{run-after, run-sights}
 use Rattle.promises.proofs.Chain.Chains.{chainSights, chainEnd, CallsLast, BackTo, KeptFrom, kept-exactly, chainIn}
 use Rattle.promises.proofs.Chain.Never.{never}
@@ -69,7 +70,7 @@ module _ (E : Env) (seqs : List ℕ) where
   all-idle : (k : ℕ) (s : Runner) → s .running ≡ false → All IsIdle (saws (sightsOf E seqs k s))
   unfolding sightsOf
   all-idle zero s e = tt
-  all-idle (suc k) s e = rw (step-idle E seqs s e) (λ count. refl, all-idle k s e)
+  all-idle (suc k) s e = rw (← step-idle E seqs s e) (λ count. refl, all-idle k s e)
 
   -- along a run in which no step is idle each step works, and then it goes on from where the run leads
   run-works : (Q : List Outcome → Type 0) {s last : Runner} {ws : List Sight} → Run E seqs s ws last → AllBusy ws
@@ -104,7 +105,7 @@ module _ (E : Env) (seqs : List ℕ) where
   at-fault s {n} {fault} e =
       by-test (s .running)
       (λ r. (r, step-fate E seqs s r .1 (ap quiet e)))
-      (λ r. let i : Idle ≡ Abort (fault .code) n (fault .place) = sym (ap (λ (x : Stepped). x .event) (step-idle E seqs s r)) ∙ e in absurd (true≢false (ap isIdle i)))
+      (λ r. let i : Idle ≡ Abort (fault .code) n (fault .place) = ap (λ (x : Stepped). x .event) (step-idle E seqs s r) ∙ e in absurd (true≢false (ap isIdle i)))
 
 -- ── a chain from the door of sequence n
 module _ (E : Env) (fair : Fair (E .format)) (seqs : List ℕ) (n m : ℕ) (r : Runner) (h : n ≤ E .format .last) (d : AtDoor n m r) where

@@ -16,11 +16,12 @@ use Rattle.memory.specs.declared.Range.{Range}
 use Rattle.memory.specs.declared.Range.the-variants.{Wrong}
 use Rattle.memory.specs.Memory.{seqsWritten, listsWritten}
 use Rattle.unit.specs.declared.Unit.{Unit as ControlUnit}
-use Rattle.unit.specs.declared.Telecommand.{Telecommand}
-use Rattle.unit.specs.declared.Telecommand.the-variants.{Status, Dump, Allow, Mode, Clear, Select, Uplink, Foreign, Unheard}
-use Rattle.unit.specs.Packet.{commandOf, foreign, is, obeyable, telecommandOf, sizeGood, pairAllowed, ownRows, codeOf}
-use Rattle.unit.specs.Answer.{effect, obeyedUnit, writesTo, refusedUnit, unitAfter, seqsAfter, listsAfter}
-use Rattle.unit.proofs.Laws.{is-told, numbers}
+use Rattle.telecommand.specs.declared.Telecommand.{Telecommand}
+use Rattle.telecommand.specs.declared.Telecommand.the-variants.{Status, Dump, Allow, Mode, Clear, Select, Uplink, Foreign, Unheard}
+use Rattle.telecommand.specs.Packet.{commandOf, foreign, is, obeyable, telecommandOf, sizeGood, pairAllowed, writesTo}
+use Rattle.unit.specs.Packet.{ownRows, codeOf}
+use Rattle.unit.specs.Answer.{effect, obeyedUnit, refusedUnit, unitAfter, seqsAfter, listsAfter}
+use Rattle.telecommand.proofs.Laws.{is-told, numbers}
 use Rattle.promises.specs.Demand3.{callingBack}
 use Rattle.promises.proofs.Packets.Obeyed.{own-passed, length-passed, mode-passed, select-passed}
 

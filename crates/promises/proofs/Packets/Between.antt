@@ -14,7 +14,8 @@ use Rattle.runner.specs.declared.Stepped.{Stepped}
 use Rattle.runner.specs.declared.Event.{Event}
 use Rattle.runner.specs.declared.Event.the-variants.{Idle, Enter, Raster, Exp, Loop, Next, Done, Wait, Call, End, Abort}
 use Rattle.runner.specs.Step.{stepOf}
-use Rattle.unit.specs.declared.Control.{Control}
+use Rattle.runner.proofs.Laws.{step-idle}
+use Rattle.status.specs.declared.Control.{Control}
 use Rattle.unit.specs.declared.Outcome.{Outcome}
 use Rattle.unit.specs.declared.Outcome.the-variants.{Saw}
 use Rattle.unit.specs.Answer.{answerOf}
@@ -24,7 +25,6 @@ use Rattle.promises.specs.Runs.{afterSteps, sightsOf, positionShown}
 use Rattle.promises.specs.Positions.{NonePast}
 use Rattle.promises.specs.Demand3.{World, Action, step, packet, after, afterAll, outcomes, modeOf, NeverCalledBack, eventsOf, exposedPositions}
 use Rattle.promises.proofs.Run.Turns.{past-append}
-use Rattle.promises.proofs.Run.Steps.{step-idle}
 use Rattle.promises.proofs.Packets.Auto.{packet-stays, packet-tables}
 use Rattle.promises.proofs.Packets.Actions.{stepsIn}
 use Rattle.promises.proofs.Range.Steady.{Steady, runnerStep, step-shows, step-outcome, step-runner, step-control, steady-after}
@@ -41,12 +41,12 @@ module _ {F : Format} (seqs lists : List ℕ) where
 
   step-over : (w : World F) → Over w → runnerStep w ≡ stepOf (envOf F lists) seqs (w .unit .runner)
   step-over w (inl (s, l)) = ap₂ (λ (x y : List ℕ). stepOf (envOf F y) x (w .unit .runner)) s l
-  step-over w (inr e) = step-idle (envOf F (w .lists)) (w .seqs) (w .unit .runner) e ∙ sym (step-idle (envOf F lists) seqs (w .unit .runner) e)
+  step-over w (inr e) = sym (step-idle (envOf F (w .lists)) (w .seqs) (w .unit .runner) e) ∙ step-idle (envOf F lists) seqs (w .unit .runner) e
 
   over-step : {w : World F} → Steady w → Over w → Over (after ours step w)
   over-step g (inl t) = inl t
   over-step {w} g (inr e) =
-      inr (ap (λ (s : Runner). s .running) (step-runner g ∙ ap (λ (r : Stepped). r .runner) (step-idle (envOf F (w .lists)) (w .seqs) (w .unit .runner) e)) ∙ e)
+      inr (ap (λ (s : Runner). s .running) (step-runner g ∙ ap (λ (r : Stepped). r .runner) (sym (step-idle (envOf F (w .lists)) (w .seqs) (w .unit .runner) e))) ∙ e)
 
   over-packet : (w : World F) (out : List ℕ) (time : ℕ) (bytes : List ℕ) → after ours (packet out time bytes) w .unit .runner ≡ w .unit .runner → Over w → Over (after ours (packet out time bytes) w)
   over-packet w out time bytes same (inr e) = inr (ap (λ (s : Runner). s .running) same ∙ e)

@@ -10,12 +10,15 @@ use Rattle.octets.specs.Bytes.{byteAt, halves}
 use Rattle.octets.proofs.Bools.{choice}
 use Rattle.memory.specs.declared.Format.{Format}
 use Rattle.unit.specs.declared.Unit.{Unit as ControlUnit}
-use Rattle.unit.specs.declared.Control.{Control}
-use Rattle.unit.specs.declared.Telecommand.{Telecommand}
-use Rattle.unit.specs.declared.Telecommand.the-variants.{Status, Dump, Allow, Mode, Clear, Select, Uplink, Foreign, Unheard}
-use Rattle.unit.specs.State.{withControl, withMode, started, stopped, moded, selected}
-use Rattle.unit.specs.Packet.{commandOf, telecommandOf, codeOf}
-use Rattle.unit.specs.Status.{running, statusOf}
+use Rattle.status.specs.declared.Control.{Control}
+use Rattle.telecommand.specs.declared.Telecommand.{Telecommand}
+use Rattle.telecommand.specs.declared.Telecommand.the-variants.{Status, Dump, Allow, Mode, Clear, Select, Uplink, Foreign, Unheard}
+use Rattle.status.specs.State.{withMode}
+use Rattle.unit.specs.State.{withControl, started, stopped, moded, selected}
+use Rattle.telecommand.specs.Packet.{commandOf, telecommandOf}
+use Rattle.unit.specs.Packet.{codeOf}
+use Rattle.status.specs.Status.{running}
+use Rattle.unit.specs.Status.{statusOf}
 use Rattle.unit.specs.Answer.{withArrival, effect, obeyedUnit, reply, refusedUnit, unitAfter, answerOf}
 use Rattle.promises.specs.Library.{ours}
 use Rattle.promises.specs.Sent.{code, Logged}

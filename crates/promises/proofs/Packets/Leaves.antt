@@ -8,11 +8,12 @@ use borrow.Author.Tests.{eq-eqb}
 use Rattle.memory.specs.declared.Format.{Format}
 use Rattle.memory.specs.Memory.{seqsWritten, listsWritten}
 use Rattle.unit.specs.declared.Unit.{Unit as ControlUnit}
-use Rattle.unit.specs.declared.Ledger.{Ledger}
-use Rattle.unit.specs.declared.Telecommand.{Telecommand}
-use Rattle.unit.specs.State.{arrived}
-use Rattle.unit.specs.Packet.{telecommandOf, codeOf}
-use Rattle.unit.specs.Answer.{withArrival, obeyedUnit, reply, writesTo, unitAfter, replyOf, answerOf, seqsAfter, listsAfter, outAfter}
+use Rattle.status.specs.declared.Ledger.{Ledger}
+use Rattle.telecommand.specs.declared.Telecommand.{Telecommand}
+use Rattle.status.specs.State.{arrived}
+use Rattle.telecommand.specs.Packet.{telecommandOf, writesTo}
+use Rattle.unit.specs.Packet.{codeOf}
+use Rattle.unit.specs.Answer.{withArrival, obeyedUnit, reply, unitAfter, replyOf, answerOf, seqsAfter, listsAfter, outAfter}
 use Rattle.promises.specs.Library.{ours}
 use Rattle.promises.specs.Sent.{Sent, code, unitLeft, seqsLeft, listsLeft, bc1, TablesKept, NoAnswer, Logged}
 use Rattle.promises.specs.Demand2.{Lent, InRange, Wanted, Obeyed, Answered, OnlyLogged}

@@ -12,10 +12,11 @@ use Rattle.octets.specs.Bytes.{byteAt, tripleAt}
 use Rattle.octets.specs.Rows.{NoneHolds}
 use Rattle.octets.proofs.Bools.{and-both, or-either}
 use Rattle.memory.specs.declared.Format.{Format}
-use Rattle.unit.specs.declared.Telecommand.{Telecommand}
-use Rattle.unit.specs.declared.Telecommand.the-variants.{Status, Dump, Allow, Mode, Clear, Select, Uplink, Foreign, Unheard}
+use Rattle.telecommand.specs.declared.Telecommand.{Telecommand}
+use Rattle.telecommand.specs.declared.Telecommand.the-variants.{Status, Dump, Allow, Mode, Clear, Select, Uplink, Foreign, Unheard}
 use Rattle.unit.specs.State.{isNone}
-use Rattle.unit.specs.Packet.{telecommandOf, is, sizeGood, pairAllowed, ownRows, packetRows}
+use Rattle.telecommand.specs.Packet.{telecommandOf, is, sizeGood, pairAllowed}
+use Rattle.unit.specs.Packet.{ownRows, packetRows}
 use Rattle.unit.specs.Answer.{answerOf}
 use Rattle.unit.proofs.Laws.{accepted, passed}
 use Rattle.promises.specs.Library.{ours}

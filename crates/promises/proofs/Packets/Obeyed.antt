@@ -13,11 +13,13 @@ use Rattle.octets.specs.Rows.{NoneHolds}
 use Rattle.octets.proofs.Bools.{and-both, choice}
 use Rattle.memory.specs.declared.Format.{Format}
 use Rattle.unit.specs.declared.Unit.{Unit as ControlUnit}
-use Rattle.unit.specs.declared.Ledger.{Ledger}
-use Rattle.unit.specs.declared.Telecommand.{Telecommand}
-use Rattle.unit.specs.declared.Telecommand.the-variants.{Status, Dump, Allow, Mode, Clear, Select, Uplink, Foreign, Unheard}
-use Rattle.unit.specs.State.{withLedger, withControl, withWatch, withMode, withAllowed, withRequests, withAbort, isNone, counted, arrived, failed, cleared, started, stopped, moded, selected}
-use Rattle.unit.specs.Packet.{commandOf, fromTo, sizeGood, pairAllowed, ownRows, codeOf}
+use Rattle.status.specs.declared.Ledger.{Ledger}
+use Rattle.telecommand.specs.declared.Telecommand.{Telecommand}
+use Rattle.telecommand.specs.declared.Telecommand.the-variants.{Status, Dump, Allow, Mode, Clear, Select, Uplink, Foreign, Unheard}
+use Rattle.status.specs.State.{withMode, withAllowed, withRequests, withAbort, counted, arrived, failed, cleared}
+use Rattle.unit.specs.State.{withLedger, withControl, withWatch, isNone, started, stopped, moded, selected}
+use Rattle.telecommand.specs.Packet.{commandOf, fromTo, sizeGood, pairAllowed}
+use Rattle.unit.specs.Packet.{ownRows, codeOf}
 use Rattle.unit.specs.Answer.{withArrival, effect, obeyedUnit, refusedUnit}
 use Rattle.unit.proofs.Laws.{passed}
 use Rattle.promises.proofs.Range.Units.{InOrder, some-known}

@@ -16,11 +16,12 @@ use Rattle.memory.specs.declared.Range.the-variants.{Sequences, LineLists, Wron
 use Rattle.memory.specs.Memory.{seqsWritten, listsWritten}
 use Rattle.memory.proofs.Laws.{written-length}
 use Rattle.unit.specs.declared.Unit.{Unit as ControlUnit}
-use Rattle.unit.specs.declared.Telecommand.{Telecommand}
-use Rattle.unit.specs.declared.Telecommand.the-variants.{Status, Dump, Allow, Mode, Clear, Select, Uplink, Foreign, Unheard}
+use Rattle.telecommand.specs.declared.Telecommand.{Telecommand}
+use Rattle.telecommand.specs.declared.Telecommand.the-variants.{Status, Dump, Allow, Mode, Clear, Select, Uplink, Foreign, Unheard}
 use Rattle.unit.specs.State.{moded, selected}
-use Rattle.unit.specs.Packet.{commandOf, ownRows, codeOf}
-use Rattle.unit.specs.Answer.{effect, obeyedUnit, writesTo, refusedUnit, unitAfter, seqsAfter, listsAfter}
+use Rattle.telecommand.specs.Packet.{commandOf, writesTo}
+use Rattle.unit.specs.Packet.{ownRows, codeOf}
+use Rattle.unit.specs.Answer.{effect, obeyedUnit, refusedUnit, unitAfter, seqsAfter, listsAfter}
 use Rattle.promises.proofs.Range.Units.{InOrder}
 use Rattle.promises.proofs.Packets.Obeyed.{own-passed, mode-passed, obeyed-order, refused-order}
 

@@ -12,7 +12,8 @@ use Rattle.memory.specs.declared.Format.{Format}
 use Rattle.memory.specs.Memory.{Fair}
 use Rattle.unit.specs.declared.Unit.{Unit as ControlUnit}
 use Rattle.unit.specs.State.{powerOn, moded, selected}
-use Rattle.unit.specs.Packet.{commandOf, telecommandOf, ownRows, lentWrong, packetRows, codeOf}
+use Rattle.telecommand.specs.Packet.{commandOf, telecommandOf}
+use Rattle.unit.specs.Packet.{ownRows, lentWrong, packetRows, codeOf}
 use Rattle.unit.specs.Answer.{effect, obeyedUnit, unitAfter, answerOf}
 use Rattle.promises.specs.Library.{ours}
 use Rattle.promises.specs.Runs.{AtDoor}

@@ -18,7 +18,8 @@ use Rattle.memory.specs.declared.Range.the-variants.{Sequences, LineLists, Wron
 use Rattle.memory.specs.Memory.{tablesWrong, within, rangeOf, rangeFrom, rangeAt, isWrong}
 use Rattle.memory.proofs.Laws.{sizes, right-sizes}
 use Rattle.unit.specs.declared.Unit.{Unit as ControlUnit}
-use Rattle.unit.specs.State.{isNone, some, runsWrong, rangeTests, outOfRange}
+use Rattle.octets.specs.Rows.{some}
+use Rattle.unit.specs.State.{isNone, runsWrong, rangeTests, outOfRange}
 use Rattle.unit.specs.Packet.{lentWrong}
 use Rattle.promises.specs.Sent.{Sent}
 use Rattle.promises.specs.Demand2.{Lent, RangeExactly, InSequences, InLineLists, InOneTable}

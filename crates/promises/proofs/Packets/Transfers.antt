@@ -11,8 +11,8 @@ use Rattle.memory.specs.declared.Format.{Format}
 use Rattle.memory.specs.declared.Range.{Range}
 use Rattle.memory.specs.Memory.{partOf, written, seqsWritten, listsWritten}
 use Rattle.memory.proofs.Laws.{written-length, written-same, written-other}
-use Rattle.unit.specs.declared.Telecommand.the-variants.{Dump, Uplink}
-use Rattle.unit.specs.Packet.{telecommandOf, uplinkRange}
+use Rattle.telecommand.specs.declared.Telecommand.the-variants.{Dump, Uplink}
+use Rattle.telecommand.specs.Packet.{telecommandOf, uplinkRange}
 use Rattle.unit.specs.Answer.{effect, obeyedUnit, reply}
 use Rattle.promises.specs.Library.{ours}
 use Rattle.promises.specs.Sent.{seqsLeft, listsLeft}

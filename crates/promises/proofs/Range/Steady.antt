@@ -17,17 +17,18 @@ use Rattle.runner.specs.declared.Stepped.{Stepped}
 use Rattle.runner.specs.declared.Event.{Event}
 use Rattle.runner.specs.declared.Event.the-variants.{Idle, Enter, Raster, Exp, Loop, Next, Done, Wait, Call, End, Abort}
 use Rattle.runner.specs.Step.{stepOf}
-use Rattle.unit.specs.declared.Watch.{Watch}
+use Rattle.runner.proofs.Laws.{step-idle}
+use Rattle.status.specs.declared.Watch.{Watch}
 use Rattle.unit.specs.declared.Unit.{Unit as ControlUnit}
 use Rattle.unit.specs.declared.UnitStep.{UnitStep}
 use Rattle.unit.specs.declared.Outcome.the-variants.{Saw}
 use Rattle.unit.specs.State.{powerOn}
 use Rattle.unit.specs.Answer.{answerOf}
-use Rattle.unit.specs.Step.{watched, stepRows, withStep, unitStepBy, unitStep}
+use Rattle.status.specs.State.{watched}
+use Rattle.unit.specs.Step.{stepRows, withStep, unitStepBy, unitStep}
 use Rattle.promises.specs.Range.{StepInRange, Shows}
 use Rattle.promises.specs.Library.{ours}
 use Rattle.promises.specs.Demand3.{World, world, Action, step, packet, after, Reached, powered, lent, acted}
-use Rattle.promises.proofs.Run.Steps.{step-idle}
 use Rattle.promises.proofs.Range.Ranges.{step-range}
 use Rattle.promises.proofs.Range.Units.{InOrder, order-in}
 use Rattle.promises.proofs.Packets.Packets.{Free, packet-order, packet-free, packet-sizes}
@@ -62,7 +63,7 @@ step-shows {F} {w} g = step-range (envOf F (w .lists)) (g .room) (w .seqs) (w .u
 -- only a unit that runs runs after a step
 pub still-running : (E : Env) (seqs : List ℕ) (s : Runner) → stepOf E seqs s .runner .running ≡ true → s .running ≡ true
 still-running E seqs s r =
-    by-test (s .running) (λ e. e) (λ e. absurd (true≢false (sym r ∙ ap (λ (x : Stepped). x .runner .running) (step-idle E seqs s e) ∙ e)))
+    by-test (s .running) (λ e. e) (λ e. absurd (true≢false (sym r ∙ ap (λ (x : Stepped). x .runner .running) (sym (step-idle E seqs s e)) ∙ e)))
 
 watched-order : (e : Event) (w : Watch) → Shows e → w .list ≤ 47 → w .abort ≤ 15 → (watched e w .list ≤ 47) × (watched e w .abort ≤ 15)
 watched-order Idle w x l a = (l, a)

@@ -3,14 +3,15 @@
 -- Assumes nothing.
 use Prim.Native.Nat.{ℕ, _+_, _<_}
 use native.Mathlib.Omega.{arith}
-use mathlib.Core.Path.{_≡_, refl}
+use mathlib.Core.Path.{_≡_, refl, subst}
 use mathlib.Core.Bool.{Bool, true, false, cond, not, _&&_}
-use mathlib.Core.List.{List, [], _∷_, _++_, append-nil}
+use mathlib.Core.List.{List, [], _++_, append-nil}
 use lib.Dec.{T, ltb, eqb}
-use borrow.Author.Tests.{eqb-true, eqb-false, ne-eqb, ltb-true}
+use borrow.Author.Tests.{eqb-true, eqb-false}
 use Rattle.octets.specs.Bytes.{byteAt}
 use Rattle.octets.specs.Rows.{Row, firstCode, coded}
-use Rattle.octets.proofs.Bools.{choice, and-T}
+use Rattle.octets.proofs.Bools.{choice}
+use Rattle.octets.proofs.Laws.{first-joined}
 use Rattle.memory.specs.declared.Place.{Place}
 use Rattle.sequence.specs.declared.Command.{Command}
 use Rattle.sequence.specs.declared.Command.the-variants.{RunRaster, Expose, LoopBack, CallSequence, Terminate, Delay, Nothing, Unknown, Unfit}
@@ -38,17 +39,6 @@ works e = quiet e && not (isA 0 e)
 pub record Decides (code : ℕ) (place : ℕ → ℕ) (s : Runner) (r : Stepped) : Type 0 where
   pub obeyed : code ≡ 0 → works (r .event) ≡ true
   pub refused : 0 < code → r ≡ aborted (fault code (place code)) s
-
--- the first code of two tables, one after the other
-one-more : (b : Bool) (c k k′ more : ℕ) → 0 < c → k′ ≡ cond (eqb k 0) more k → cond b c k′ ≡ cond (eqb (cond b c k) 0) more (cond b c k)
-one-more true c k k′ more h e = rw (ne-eqb c 0 (λ z. omega arith))
-one-more false c k k′ more h e = e
-
-first-append : (rs more : List Row) → T (coded rs) → firstCode (rs ++ more) ≡ cond (eqb (firstCode rs) 0) (firstCode more) (firstCode rs)
-first-append [] more t = refl
-first-append (r ∷ rs) more t =
-    let (h, q) = and-T (ltb 0 (r .code)) (coded rs) t in
-    one-more (r .holds) (r .code) (firstCode rs) (firstCode (rs ++ more)) (firstCode more) (ltb-true 0 (r .code) h) (first-append rs more q)
 
 -- either answer of a test works
 either : (b : Bool) (x y : Stepped) → works (x .event) ≡ true → works (y .event) ≡ true → works (cond b x y .event) ≡ true
@@ -83,16 +73,18 @@ module _ (E : Env) (text : List ℕ) (s : Runner) where
   DecidesAct code a = Decides code (λ _. s .place) s (does a)
 
   -- one code in front of another
-  in-front : (k k′ : ℕ) (a : Act) → DecidesAct k′ a → DecidesAct (cond (eqb k 0) k′ k) (unless k a)
+  in-front : (k k′ : ℕ) (a : Act) → DecidesAct k′ a → DecidesAct (cond (not (eqb k 0)) k k′) (unless k a)
   unfolding act
   in-front k k′ a d = go (eqb k 0) refl
     where
-      go : (b : Bool) → eqb k 0 ≡ b → DecidesAct (cond b k′ k) (cond b a (Refused k))
+      go : (b : Bool) → eqb k 0 ≡ b → DecidesAct (cond (not b) k k′) (cond b a (Refused k))
       go true e = d
       go false e = record { obeyed = λ z. absurd (eqb-false k 0 e z); refused = λ h. refl }
 
   by-rows : (rs more : List Row) (a : Act) → T (coded rs) → DecidesAct (firstCode more) a → DecidesAct (firstCode (rs ++ more)) (unless (firstCode rs) a)
-  by-rows rs more a t d = rw (first-append rs more t) (in-front (firstCode rs) (firstCode more) a d)
+  by-rows rs more a t d =
+      let c = firstCode rs in let c′ = firstCode more in
+      subst (λ (n : ℕ). DecidesAct n (unless c a)) (first-joined rs more t c c′ (cond (not (eqb c 0)) c c′) refl refl refl) (in-front c c′ a d)
 
   by-these : (rs : List Row) (a : Act) → T (coded rs) → works (does a .event) ≡ true → DecidesAct (firstCode rs) (unless (firstCode rs) a)
   by-these rs a t w = rw append-nil at (by-rows rs [] a t (at-work (λ _. s .place) s (does a) w))

@@ -12,9 +12,9 @@ use Rattle.runner.specs.declared.Sight.{Sight}
 use Rattle.runner.specs.declared.Event.{Event}
 use Rattle.runner.specs.declared.Stepped.{Stepped}
 use Rattle.runner.specs.Step.{to, stepOf}
+use Rattle.runner.proofs.Laws.{step-idle}
 use Rattle.survey.specs.Turns.{turns}
 use Rattle.promises.specs.Runs.{quiet, seen, Run, done, more, afterSteps, sightsOf, AllQuiet, Quiet}
-use Rattle.promises.proofs.Run.Steps.{step-idle}
 
 infixr 20 _▸_
 pub one : {E : Env} {seqs : List ℕ} {s next : Runner} {e : Event} → stepOf E seqs s ≡ to e next → quiet e ≡ true → Run E seqs s (seen e next ∷ []) next
@@ -66,7 +66,7 @@ module _ (E : Env) (seqs : List ℕ) where
   pub idle-quiet : (k : ℕ) (s : Runner) → s .running ≡ false → Quiet E seqs k s
   unfolding sightsOf
   idle-quiet zero s h = tt
-  idle-quiet (suc k) s h = rw (step-idle E seqs s h) (refl, idle-quiet k s h)
+  idle-quiet (suc k) s h = rw (← step-idle E seqs s h) (refl, idle-quiet k s h)
 
 -- ── runs in turns: `at k n` is the runner before turn k, with n turns to come
 module _ {E : Env} {seqs : List ℕ} (at : ℕ → ℕ → Runner) (f : ℕ → ℕ → List Sight) (N : ℕ)

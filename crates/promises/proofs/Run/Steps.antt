@@ -13,13 +13,13 @@ use Rattle.memory.specs.Memory.{placeAt}
 use Rattle.sequence.specs.declared.Fault.{Fault}
 use Rattle.sequence.specs.declared.Header.the-variants.{Repeats, Bad}
 use Rattle.sequence.specs.declared.RasterWords.{RasterWords}
-use Rattle.sequence.specs.Text.{fault, sizeAt, headerOf}
+use Rattle.sequence.specs.Text.{sizeAt, headerOf}
 use Rattle.sequence.specs.Raster.{rasterAt, startOf}
 use Rattle.sequence.specs.Env.{Env, textOf}
 use Rattle.runner.specs.declared.OpenRaster.{OpenRaster}
 use Rattle.runner.specs.declared.Runner.{Runner}
 use Rattle.runner.specs.declared.Stepped.{Stepped}
-use Rattle.runner.specs.declared.Event.the-variants.{Idle, Enter, Raster, Exp, Loop, Next, Done, Wait, Call, End, Abort}
+use Rattle.runner.specs.declared.Event.the-variants.{Enter, Raster, Exp, Loop, Next, Done, Wait, Call, End, Abort}
 use Rattle.runner.specs.declared.Opened.{Opened}
 use Rattle.runner.specs.declared.Opened.the-variants.{Shut, Open}
 use Rattle.runner.specs.declared.Act.{Act}
@@ -163,7 +163,3 @@ module _ (E : Env) (seqs : List ℕ) (n : ℕ) where
     pub step-barred : {f : Fault} → headerOf text ≡ Bad f → stepOf E seqs (door n d m q) .event ≡ Abort (f .code) n (f .place)
     unfolding stepOf stepIn entered aborted
     step-barred h = rw h
-
-pub step-idle : (E : Env) (seqs : List ℕ) (s : Runner) → s .running ≡ false → stepOf E seqs s ≡ to Idle s
-unfolding stepOf
-step-idle E seqs s e = rw e

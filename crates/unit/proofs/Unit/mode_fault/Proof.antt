@@ -15,9 +15,9 @@ returns c F =
       c .before .before .refuse3 .ensures,
       c .before .before .before .refuse2 .ensures,
       b .refuse .ensures,
-      b .before .both .ensures,
+      b .before .both2 .ensures,
       b .before .before .before .pair-allowed .ensures,
-      d .from-to .ensures,
+      d .both .ensures,
       d .before .before .byte .ensures,
     )
 

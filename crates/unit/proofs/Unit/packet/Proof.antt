@@ -1,6 +1,6 @@
 -- `Unit::packet` meets its contract: the two ways out cite `refuses` and `obeys`; the output has room by `has-room`. Assumes nothing.
 use mathlib.Core.Path.{ap, _∙_}
-use Rattle.unit.specs.Packet.{telecommandOf}
+use Rattle.telecommand.specs.Packet.{telecommandOf}
 use Rattle.unit.proofs.Ways.{refuses, has-room, obeys}
 use borrow.Author.Needs.{needs}
 use Rattle.unit.proofs.Unit.packet.Statement.{statement}

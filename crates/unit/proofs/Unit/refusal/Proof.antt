@@ -4,7 +4,8 @@ use mathlib.Core.List.{_++_}
 use borrow.Author.Tests.{eq-eqb, ne-eqb, lt-ltb, le-ltb}
 use Rattle.octets.specs.Rows.{firstCode}
 use Rattle.octets.proofs.Laws.{first-joined}
-use Rattle.unit.specs.Packet.{shapeRows, ownRows, packetRows, codeOf}
+use Rattle.telecommand.specs.Packet.{shapeRows}
+use Rattle.unit.specs.Packet.{ownRows, packetRows, codeOf}
 use borrow.Author.Needs.{needs}
 use Rattle.unit.proofs.Unit.refusal.Statement.{statement}
 use Rattle.unit.proofs.Unit.refusal.Tie as tie

@@ -1,0 +1,62 @@
+-- What is written, call by call, for each event.
+use Rattle.state.specs.Parts.{stepOver}
+use borrow.Author.Needs.{needs}
+use Rattle.state.proofs.save_step.Statement.{statement}
+use Rattle.state.proofs.save_step.Tie as tie
+
+pub save-step-spec : {M : Type 1} → statement M
+unfolding stepOver
+save-step-spec =
+    tie.close
+    (tie.spec
+    (λ c κs. search needs)
+    (λ c. search needs)
+    (λ c. search needs)
+    (λ c κs. search needs)
+    (λ c κs. search needs)
+    (λ c. search needs)
+    (λ c κs. search needs)
+    (λ c κs. search needs)
+    (λ c. search needs)
+    (λ c κs. search needs)
+    (λ c κs. search needs)
+    (λ c κs. search needs)
+    (λ c. search needs)
+    (λ c κs. search needs)
+    (λ c κs. search needs)
+    (λ c. search needs)
+    (λ c κs. search needs)
+    (λ c κs. search needs)
+    (λ c. search needs)
+    (λ c κs. search needs)
+    (λ c. search needs)
+    (λ c. search needs)
+    (λ c κs. search needs)
+    (λ c κs. search needs)
+    (λ c. search needs)
+    (λ c κs. search needs)
+    (λ c. search needs)
+    (λ c κs. search needs)
+    (λ c κs. search needs)
+    (λ c. search needs)
+    (λ c. rw (c .before .before .before .before .put .ensures, c .enum-told .given .1))
+    (λ c. search needs)
+    (λ c. rw (c .before .before .put2 .ensures, c .before .before .before .before .before .before .put-flag .ensures, c .before .before .before .before .before .before .before .before .before .before .before .before .put .ensures, c .before .before .before .before .before .before .before .before .enum-told2 .given .1))
+    (λ c. search needs)
+    (λ c. rw (c .before .before .save-raster .ensures, c .before .before .before .before .before .before .put3 .ensures, c .before .before .before .before .before .before .before .before .before .before .before .before .before .put .ensures, c .before .before .before .before .before .before .before .before .before .event .given .1))
+    (λ c. search needs)
+    (λ c. rw (c .before .before .put4 .ensures, c .before .before .before .before .before .before .put-word2 .ensures, c .before .before .before .before .before .before .before .before .before .before .put-word .ensures, c .before .before .before .before .before .before .before .before .before .before .before .before .before .before .before .before .put .ensures, c .before .before .before .before .before .before .before .before .before .before .before .before .enum-told3 .given .1))
+    (λ c. search needs)
+    (λ c. rw (c .before .before .put-word3 .ensures, c .before .before .before .before .before .before .put5 .ensures, c .before .before .before .before .before .before .before .before .before .before .before .before .put .ensures, c .before .before .before .before .before .before .before .before .enum-told4 .given .1))
+    (λ c. search needs)
+    (λ c. rw (c .before .before .put6 .ensures, c .before .before .before .before .before .before .put-word4 .ensures, c .before .before .before .before .before .before .before .before .before .before .before .before .put .ensures, c .before .before .before .before .before .before .before .before .enum-told5 .given .1))
+    (λ c. search needs)
+    (λ c. rw (c .before .before .put7 .ensures, c .before .before .before .before .before .before .before .before .put .ensures, c .before .before .before .before .enum-told6 .given .1))
+    (λ c. search needs)
+    (λ c. rw (c .before .before .before .before .put .ensures, c .enum-told7 .given .1))
+    (λ c. search needs)
+    (λ c. rw (c .before .before .put-flag2 .ensures, c .before .before .before .before .before .before .put8 .ensures, c .before .before .before .before .before .before .before .before .before .before .before .before .put .ensures, c .before .before .before .before .before .before .before .before .enum-told8 .given .1))
+    (λ c. search needs)
+    (λ c. rw (c .before .before .put-flag3 .ensures, c .before .before .before .before .before .before .before .before .put .ensures, c .before .before .before .before .enum-told9 .given .1))
+    (λ c. search needs)
+    (λ c. rw (c .before .before .put-flag4 .ensures, c .before .before .before .before .before .before .put9 .ensures, c .before .before .before .before .before .before .before .before .before .before .before .before .before .put .ensures, c .before .before .before .before .before .before .before .before .before .event2 .given .1)))
