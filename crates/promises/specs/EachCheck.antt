@@ -74,7 +74,7 @@ openAfter text p o Unknown = o
 openAfter text p o Unfit = o
 
 abbrev pub isClosing : Command → Bool
-isClosing command = eqb (numberOf command) 0x93 || eqb (numberOf command) 0x94
+isClosing command = eqb (numberOf command) (numberOf (CallSequence 0)) || eqb (numberOf command) (numberOf Terminate)
 
 -- In text order: from p on, with o open, each command passes the rules and none is the closing one, up to the place q, where o′ is open.
 pub data UpTo (E : Env) (text : List ℕ) (q : ℕ) (o′ : Opened) : ℕ → Opened → Type 0 where
@@ -121,7 +121,7 @@ CallsFollowed L = (F : Format) (seqs lists : List ℕ) (n : ℕ) → Given F seq
 -- ── 4. "And gives exposures and steps over the listed ones once each."
 
 abbrev pub isLoopBack : Command → Bool
-isLoopBack command = eqb (numberOf command) 0x92
+isLoopBack command = eqb (numberOf command) (numberOf (LoopBack 0))
 
 -- "Commands outside rasters", among the commands at these places: a raster is from its run raster through the loop back after it. The second
 -- argument says whether the first of these places is in a raster.

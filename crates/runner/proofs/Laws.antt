@@ -24,7 +24,7 @@ use Rattle.sequence.specs.declared.Command.the-variants.{RunRaster, Expose, Loo
 use Rattle.sequence.proofs.Command.{the-type}
 use Rattle.sequence.specs.declared.RasterWords.{RasterWords}
 use Rattle.sequence.specs.declared.ListCard.{ListCard}
-use Rattle.sequence.specs.Text.{fault, numberOf, sizeOf, sizeAt, commandAt}
+use Rattle.sequence.specs.Text.{rowOf, fault, numberOf, sizeOf, sizeAt, commandAt}
 use Rattle.sequence.specs.Raster.{rasterAt}
 use Rattle.sequence.specs.Env.{Env, textOf}
 use Rattle.runner.specs.declared.OpenRaster.{OpenRaster}
@@ -105,12 +105,12 @@ module _ (F : Format) (text : List ℕ) (s : Runner) (p : ℕ) (stands : (p ≡ 
   pub begins : (id start list loops repeats : ℕ) → id ≡ rasterAt text p .id → start ≡ rasterAt text p .initial → list ≡ rasterAt text p .list
       → loops ≡ rasterAt text p .loops → repeats ≡ cond held (s .raster .repeats) (rasterAt text p .repeats)
       → to (Raster id start list)
-      (withPlace (s .place + 23) (withRaster (record { place = s .place; count = 0; passes = loops; repeats = repeats }) (withMirror start s)))
+      (withPlace (s .place + rowOf RunRaster .size) (withRaster (record { place = s .place; count = 0; passes = loops; repeats = repeats }) (withMirror start s)))
       ≡ begun F text s
   unfolding begun sizeOf
   begins id start list loops repeats a b l n r = rw (a, b, l, n, r, held-is, open-is, stands .0, past-is text s RunRaster (stands .1))
 
-pub delays : (text : List ℕ) (s : Runner) (time : ℕ) → Stands text s (Delay time) → to (Wait time) (withPlace (s .place + 3) s) ≡ delayed text s
+pub delays : (text : List ℕ) (s : Runner) (time : ℕ) → Stands text s (Delay time) → to (Wait time) (withPlace (s .place + rowOf (Delay time) .size) s) ≡ delayed text s
 unfolding delayed sizeOf
 delays text s time stands =
     ap₂ (λ (t n : ℕ). to (Wait t) (withPlace n s)) (subst (Bytes text (s .place)) (sym (stands .here)) (command-bytes text (s .place)) .1)

@@ -5,7 +5,8 @@ ghost use lib.ListN.{length};
 ghost use Rattle.octets.specs.Rows.{firstCode};
 ghost use Rattle.sequence.specs.declared.RasterWords.{RasterWords};
 ghost use Rattle.sequence.specs.Raster.{rasterAt, startOf, reachOf};
-ghost use Rattle.sequence.specs.Text.{fault, sizeAt};
+ghost use Rattle.sequence.specs.declared.Command.the-variants.{Expose, Delay};
+ghost use Rattle.sequence.specs.Text.{rowOf, fault, sizeAt};
 ghost use Rattle.sequence.specs.LineList.{isBad};
 ghost use Rattle.sequence.specs.Env.{cardsOf, envOf};
 ghost use Rattle.runner.specs.Judge.{isOpen, openElsewhere, countLeft, repeatBegun, setOf, full, countRows, listRows, pathRows, flagRows, rasterRows, runRows, exposeRows, loopRows, closeRows, unless, exposesIn, judge};
@@ -483,7 +484,7 @@ impl Runner {
                 sequence::list_at(text, at),
             ),
             runner: Runner {
-                place: self.place + 23,
+                place: self.place + sequence::RUN_RASTER.size,
                 raster: OpenRaster {
                     place: self.place,
                     count: 0,
@@ -512,13 +513,13 @@ impl Runner {
 
     // One exposure more, with the mirror where it stands after it.
     fn exposed(self, mirror: u16) -> Stepped
-        requires { ⌜ (self .place + 3 < 256) × (self .raster .count < 255) ⌝ }
-        ensures { λ r. ⌜ r ≡ exposedAt (self .place + 3) mirror self ⌝ }
+        requires { ⌜ (self .place + rowOf (Expose 0) .size < 256) × (self .raster .count < 255) ⌝ }
+        ensures { λ r. ⌜ r ≡ exposedAt (self .place + rowOf (Expose 0) .size) mirror self ⌝ }
     {
         Stepped {
             event: Event::Exp(self.mirror),
             runner: Runner {
-                place: self.place + 3,
+                place: self.place + sequence::EXPOSE.size,
                 raster: OpenRaster {
                     count: self.raster.count + 1,
                     ..self.raster
@@ -585,7 +586,7 @@ impl Runner {
         Stepped {
             event: Event::Done,
             runner: Runner {
-                place: self.place + 2,
+                place: self.place + sequence::LOOP_BACK.size,
                 raster: raster.shut(),
                 ..self
             },
@@ -594,13 +595,13 @@ impl Runner {
 
     // A delay shown.
     fn delay(self, time: u16) -> Stepped
-        requires { ⌜ self .place + 3 < 256 ⌝ }
-        ensures { λ r. ⌜ r ≡ to (Event.Wait time) (withPlace (self .place + 3) self) ⌝ }
+        requires { ⌜ self .place + rowOf (Delay time) .size < 256 ⌝ }
+        ensures { λ r. ⌜ r ≡ to (Event.Wait time) (withPlace (self .place + rowOf (Delay time) .size) self) ⌝ }
     {
         Stepped {
             event: Event::Wait(time),
             runner: Runner {
-                place: self.place + 3,
+                place: self.place + sequence::DELAY.size,
                 ..self
             },
         }

@@ -10,7 +10,8 @@ use lib.Dec.{ltb, leb, eqb}
 use borrow.Author.Tests.{ltb-true, leb-true, eqb-true, eqb-false, lt-ltb}
 use Rattle.octets.specs.Bytes.{byteAt}
 use Rattle.octets.proofs.Bools.{and-both, or-either, by-test}
-use Rattle.sequence.specs.Text.{sizeAt}
+use Rattle.sequence.specs.declared.Command.the-variants.{Expose}
+use Rattle.sequence.specs.Text.{numberOf, sizeAt}
 use Rattle.sequence.specs.Starts.{starts, among, exposesBetween, firstExposure}
 
 -- n commands stand from p up to q
@@ -52,21 +53,21 @@ start-hops text (suc f) p t h =
 -- ── the first exposure that was found
 -- x is a start with an expose, after r and before q, and no start before it has one after r
 pub record First (text : List ℕ) (p r q x : ℕ) : Type 0 where
-  pub is : byteAt text x ≡ 0x91
+  pub is : byteAt text x ≡ numberOf (Expose 0)
   pub after : r < x
   pub before : x < q
   pub whole : 0 < sizeAt text x
   pub reached : (n : ℕ) × Hops text p x n
-  pub none : (y n : ℕ) → Hops text p y n → r < y → y < x → 0 < sizeAt text y → byteAt text y ≡ 0x91 → ⊥
+  pub none : (y n : ℕ) → Hops text p y n → r < y → y < x → 0 < sizeAt text y → byteAt text y ≡ numberOf (Expose 0) → ⊥
 
 module _ (text : List ℕ) (r q p : ℕ) where
   first-here : 0 < sizeAt text p → exposesBetween text r q p ≡ true → First text p r q p
   unfolding exposesBetween
   first-here z e =
-      let (a, d) = and-both (ltb r p) (ltb p q && eqb (byteAt text p) 0x91) e in
-      let (b, o) = and-both (ltb p q) (eqb (byteAt text p) 0x91) d in
+      let (a, d) = and-both (ltb r p) (ltb p q && eqb (byteAt text p) (numberOf (Expose 0))) e in
+      let (b, o) = and-both (ltb p q) (eqb (byteAt text p) (numberOf (Expose 0))) d in
       record {
-        is = eqb-true (byteAt text p) 0x91 o;
+        is = eqb-true (byteAt text p) (numberOf (Expose 0)) o;
         after = ltb-true r p a;
         before = ltb-true p q b;
         whole = z;
@@ -74,7 +75,7 @@ module _ (text : List ℕ) (r q p : ℕ) where
         none = λ y n h i j w o. let l = hops-le h in omega arith;
       }
 
-  exposes : r < p → p < q → byteAt text p ≡ 0x91 → exposesBetween text r q p ≡ true
+  exposes : r < p → p < q → byteAt text p ≡ numberOf (Expose 0) → exposesBetween text r q p ≡ true
   unfolding exposesBetween
   exposes a b o = rw (lt-ltb r p a, lt-ltb p q b, o)
 
@@ -89,7 +90,7 @@ module _ (text : List ℕ) (r q p : ℕ) where
         none = none;
       }
     where
-      none : (y n : ℕ) → Hops text p y n → r < y → y < x → 0 < sizeAt text y → byteAt text y ≡ 0x91 → ⊥
+      none : (y n : ℕ) → Hops text p y n → r < y → y < x → 0 < sizeAt text y → byteAt text y ≡ numberOf (Expose 0) → ⊥
       none y n here i j w o = false≢true (sym e ∙ exposes i (omega arith) o)
       none y n (hop {n = m} v h) i j w o = f .none y m h i j w o
 

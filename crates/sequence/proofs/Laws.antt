@@ -3,17 +3,18 @@
 use Prim.Native.Nat.{ℕ, zero, suc, _+_, _-_, _≤_, _<_}
 use native.Mathlib.Omega.{arith}
 use mathlib.Core.Path.{_≡_, refl, sym, ap, _∙_, subst}
-use mathlib.Core.Bool.{Bool, true, false, cond, not, _||_}
-use mathlib.Core.List.{List, [], _∷_}
+use mathlib.Core.Bool.{Bool, true, false, cond, not, _&&_, _||_}
+use mathlib.Core.List.{List, [], _∷_, map}
 use mathlib.Core.Logic.{_⊎_, ⊎-elim, inl, inr}
 use lib.Dec.{ltb, leb, eqb}
-use lib.ListN.{length}
+use lib.ListN.{length, getD}
 use borrow.Author.Tests.{ltb-false, leb-true, leb-false, eqb-true, eqb-false, not-false, le-ltb, eq-eqb, ne-eqb}
 use Rattle.octets.specs.Bytes.{byteAt, wordAt}
 use Rattle.octets.proofs.Bools.{and-both, or-neither, by-test, choice}
 use Rattle.sequence.specs.declared.Command.{Command}
 use Rattle.sequence.specs.declared.Command.the-variants.{RunRaster, Expose, LoopBack, CallSequence, Terminate, Delay, Nothing, Unknown, Unfit}
-use Rattle.sequence.specs.Text.{limit, lengthGood, numberOf, CommandRow, commandTable, commandIn, sizeOf, decoded, noneThere, commandAt, sizeAt, isRunRaster}
+use Rattle.sequence.specs.declared.CommandRow.{CommandRow}
+use Rattle.sequence.specs.Text.{limit, lengthGood, rowOf, numberOf, commandsAt, sizeIn, sizeOf, commandIn, decoded, noneThere, commandAt, sizeAt, isRunRaster}
 use Rattle.sequence.specs.Starts.{starts}
 use Rattle.sequence.specs.declared.RasterWords.{RasterWords}
 use Rattle.sequence.specs.Raster.{reachOf, somePast, leaves}
@@ -44,21 +45,21 @@ unfolding commandAt
 none-past text p h = by-test (noneThere text p) (λ e. rw e) (λ e. let w = some-there text p e in absurd (omega arith))
 
 -- ── the command of a number
--- what is shown of each row's command, from its number
-abbrev pub Each : (Command → Type 0) → ℕ → List CommandRow → Type 0
+-- what is shown of each of these commands, from its number
+abbrev pub Each : (Command → Type 0) → ℕ → List Command → Type 0
 Each P n [] = Unit {0}
-Each P n (r ∷ rs) = (n ≡ numberOf (r .command) → P (r .command)) × Each P n rs
+Each P n (k ∷ ks) = (n ≡ numberOf k → P k) × Each P n ks
 
 module _ (P : Command → Type 0) where
-  each : (n : ℕ) (rs : List CommandRow) → ((k : Command) → n ≡ numberOf k → P k) → Each P n rs
+  each : (n : ℕ) (ks : List Command) → ((k : Command) → n ≡ numberOf k → P k) → Each P n ks
   each n [] f = tt
-  each n (r ∷ rs) f = (f (r .command), each n rs f)
+  each n (k ∷ ks) f = (f k, each n ks f)
 
-  of-number : (n : ℕ) (rs : List CommandRow) → (Each (λ k. ⊥) n rs → P Unknown) → Each P n rs → P (commandIn n rs)
+  of-number : (n : ℕ) (ks : List Command) → (Each (λ k. ⊥) n ks → P Unknown) → Each P n ks → P (commandIn n ks)
   of-number n [] u e = u tt
-  of-number n (r ∷ rs) u (f, e) =
-      let m = numberOf (r .command) in
-      choice P (eqb n m) (r .command) _ (λ t. f (eqb-true n m t)) (λ t. of-number n rs (λ s. u (eqb-false n m t, s)) e)
+  of-number n (k ∷ ks) u (f, e) =
+      let m = numberOf k in
+      choice P (eqb n m) k _ (λ t. f (eqb-true n m t)) (λ t. of-number n ks (λ s. u (eqb-false n m t, s)) e)
 
   ways : (n u x : Bool) (k : Command) → P Nothing → P Unknown → P Unfit → (n ≡ false → x ≡ false → P k)
       → P (cond n Nothing (cond u Unknown (cond x Unfit k)))
@@ -69,58 +70,74 @@ module _ (P : Command → Type 0) where
 
   -- what holds where no whole command stands, and of each command that stands whole, holds of what stands at a place
   pub of-command : (text : List ℕ) (p : ℕ) → P Nothing → P Unknown → P Unfit
-      → (Whole text p (sizeOf (byteAt text p)) → Each P (byteAt text p) (commandTable text (p + 1))) → P (commandAt text p)
+      → (Whole text p (sizeOf (byteAt text p)) → Each P (byteAt text p) (commandsAt text (p + 1))) → P (commandAt text p)
   unfolding commandAt decoded
   of-command text p a b c d =
       let n = byteAt text p in
       ways (noneThere text p) (eqb (sizeOf n) 0) (ltb (limit text) (p + sizeOf n)) (decoded text p) a b c
-      (λ e f. of-number n (commandTable text (p + 1)) (λ s. b) (let w = some-there text p e in d record { from = w .from; fits = ltb-false (limit text) (p + sizeOf n) f; inside = w .inside }))
+      (λ e f. of-number n (commandsAt text (p + 1)) (λ s. b) (let w = some-there text p e in d record { from = w .from; fits = ltb-false (limit text) (p + sizeOf n) f; inside = w .inside }))
 
--- no row has this number
-abbrev pub Strange : ℕ → Type 0
-Strange n = (((((Unit {0} × (n ≡ 0x90 → ⊥)) × (n ≡ 0x91 → ⊥)) × (n ≡ 0x92 → ⊥)) × (n ≡ 0x93 → ⊥)) × (n ≡ 0x94 → ⊥)) × (n ≡ 0x95 → ⊥)
+-- ── the rows of the commands
+-- a test of every row of a table holds of the row at a place
+abbrev pub allRows : (CommandRow → Bool) → List CommandRow → Bool
+allRows test [] = true
+allRows test (r ∷ rs) = test r && allRows test rs
 
-pub size-strange : (n : ℕ) → Strange n → 0 ≡ sizeOf n
+row-at : (test : CommandRow → Bool) (rs : List CommandRow) (k : ℕ) (d : CommandRow) → allRows test rs ≡ true → k < length rs → test (getD rs k d) ≡ true
+row-at test [] k d e h = absurd (omega arith)
+row-at test (r ∷ rs) zero d e h = and-both (test r) (allRows test rs) e .0
+row-at test (r ∷ rs) (suc k) d e h = row-at test rs k d (and-both (test r) (allRows test rs) e .1) (omega arith)
+
+-- the rule of the table: a row has the bytes of its number, and no more than 23
+abbrev pub rowRight : CommandRow → Bool
+rowRight r = eqb (r .size) (sizeOf (r .op)) && leb (r .size) 23
+
+pub row-right : (rs : List CommandRow) (k : ℕ) (d : CommandRow) (n : ℕ) → allRows rowRight rs ≡ true → k < length rs → getD rs k d .op ≡ n
+    → (getD rs k d .size ≡ sizeOf n) × (getD rs k d .size ≤ 23)
+row-right rs k d n e h o =
+    let r = getD rs k d in
+    let (a, b) = and-both (eqb (r .size) (sizeOf (r .op))) (leb (r .size) 23) (row-at rowRight rs k d e h) in
+    (eqb-true (r .size) (sizeOf (r .op)) a ∙ ap sizeOf o, leb-true (r .size) 23 b)
+
+-- a number that none of these commands has is in none of their rows
+size-strange-in : (n : ℕ) (ks : List Command) → Each (λ k. ⊥) n ks → 0 ≡ sizeIn n (map rowOf ks)
+size-strange-in n [] s = refl
+size-strange-in n (k ∷ ks) (f, s) = rw (ne-eqb n (numberOf k) f) (size-strange-in n ks s)
+
+pub size-strange : (n : ℕ) (text : List ℕ) (at : ℕ) → Each (λ k. ⊥) n (commandsAt text at) → 0 ≡ sizeOf n
 unfolding sizeOf
-size-strange n ((((((u, a), b), c), d), e), f) = rw (ne-eqb n 0x90 a, ne-eqb n 0x91 b, ne-eqb n 0x92 c, ne-eqb n 0x93 d, ne-eqb n 0x94 e, ne-eqb n 0x95 f)
+size-strange n text at = size-strange-in n (commandsAt text at)
 
 pub size-zero : 0 ≡ sizeOf 0
 unfolding sizeOf
 size-zero = refl
 
--- the command of a number
-abbrev pub numbered : List ℕ → ℕ → ℕ → Command
-numbered text p n = cond (eqb (sizeOf n) 0) Unknown (commandIn n (commandTable text (p + 1)))
+-- a command takes as many bytes as its number says, and stands where they lie among the commands
+module _ (text : List ℕ) (p : ℕ) where
+  abbrev Sized : Command → Type 0
+  Sized k = sizeOf (numberOf k) ≡ sizeOf (byteAt text p)
 
--- it stands where its bytes lie among the commands, and takes as many as its number says
-module _ (text : List ℕ) (p n : ℕ) where
-  pub command-numbered : byteAt text p ≡ n → noneThere text p ≡ false → p + sizeOf n ≤ limit text → commandAt text p ≡ numbered text p n
-  unfolding commandAt decoded
-  command-numbered e none fits = rw (e, none, le-ltb (limit text) (p + sizeOf n) fits)
+  size-decoded : Sized (decoded text p)
+  unfolding decoded
+  size-decoded =
+      let n = byteAt text p in let ks = commandsAt text (p + 1) in
+      of-number Sized n ks (λ s. sym size-zero ∙ size-strange n text (p + 1) s) (each Sized n ks (λ k h. ap sizeOf (sym h)))
 
-  size-numbered : sizeOf (numberOf (numbered text p n)) ≡ sizeOf n
-  size-numbered =
-      by-test (eqb (sizeOf n) 0)
-      (λ e. rw (e, eqb-true (sizeOf n) 0 e) (sym size-zero))
-      (λ e. rw e
-      (of-number Sized n (commandTable text (p + 1)) (λ (a, (b, (c, (d, (f, (g, u)))))). sym size-zero ∙ size-strange n ((((((u, a), b), c), d), f), g))
-      (each Sized n (commandTable text (p + 1)) (λ k h. ap sizeOf (sym h)))))
-    where
-      Sized : Command → Type 0
-      Sized k = sizeOf (numberOf k) ≡ sizeOf n
-
-  pub size-stands : byteAt text p ≡ n → noneThere text p ≡ false → p + sizeOf n ≤ limit text → sizeAt text p ≡ sizeOf n
-  unfolding sizeAt
-  size-stands e none fits = ap (λ (k : Command). sizeOf (numberOf k)) (command-numbered e none fits) ∙ size-numbered
+  pub size-stands : noneThere text p ≡ false → p + sizeOf (byteAt text p) ≤ limit text → sizeAt text p ≡ sizeOf (byteAt text p)
+  unfolding sizeAt commandAt
+  size-stands none fits =
+      let n = sizeOf (byteAt text p) in
+      rw (none, le-ltb (limit text) (p + n) fits)
+      (choice Sized (eqb n 0) Unknown (decoded text p) (λ e. sym size-zero ∙ sym (eqb-true n 0 e)) (λ _. size-decoded))
 
 -- the opcode and the operand that stand at a command's place
 abbrev pub Bytes : List ℕ → ℕ → Command → Type 0
-Bytes text p RunRaster = byteAt text p ≡ 0x90
-Bytes text p (Expose t) = (byteAt text p ≡ 0x91) × (t ≡ wordAt text (p + 1))
-Bytes text p (LoopBack t) = (byteAt text p ≡ 0x92) × (t ≡ byteAt text (p + 1))
-Bytes text p (CallSequence n) = (byteAt text p ≡ 0x93) × (n ≡ byteAt text (p + 1))
-Bytes text p Terminate = byteAt text p ≡ 0x94
-Bytes text p (Delay t) = (byteAt text p ≡ 0x95) × (t ≡ wordAt text (p + 1))
+Bytes text p RunRaster = byteAt text p ≡ numberOf RunRaster
+Bytes text p (Expose t) = (byteAt text p ≡ numberOf (Expose t)) × (t ≡ wordAt text (p + 1))
+Bytes text p (LoopBack t) = (byteAt text p ≡ numberOf (LoopBack t)) × (t ≡ byteAt text (p + 1))
+Bytes text p (CallSequence n) = (byteAt text p ≡ numberOf (CallSequence n)) × (n ≡ byteAt text (p + 1))
+Bytes text p Terminate = byteAt text p ≡ numberOf Terminate
+Bytes text p (Delay t) = (byteAt text p ≡ numberOf (Delay t)) × (t ≡ wordAt text (p + 1))
 Bytes text p Nothing = Unit {0}
 Bytes text p Unknown = Unit {0}
 Bytes text p Unfit = Unit {0}
@@ -140,7 +157,7 @@ module _ (text : List ℕ) (p : ℕ) where
   unfolding sizeAt sizeOf
   size-whole =
       of-command (Takes text p) text p (inl refl) (inl refl) (inl refl)
-      (λ w. each (Takes text p) (byteAt text p) (commandTable text (p + 1)) (λ k e. inr (subst (λ (n : ℕ). Whole text p (sizeOf n)) e w)))
+      (λ w. each (Takes text p) (byteAt text p) (commandsAt text (p + 1)) (λ k e. inr (subst (λ (n : ℕ). Whole text p (sizeOf n)) e w)))
 
   pub size-inside : 0 < sizeAt text p → (p + sizeAt text p < length text) × (4 ≤ p)
   size-inside h = ⊎-elim (λ e. absurd (omega arith)) (λ w. (omega arith, w .from)) size-whole
@@ -151,13 +168,13 @@ module _ (text : List ℕ) (p : ℕ) where
   size-below b h = ⊎-elim (λ e. omega arith) (λ w. omega arith) size-whole
 
 -- a run raster stands where the number says so and a command stands whole
-pub raster-stands : (text : List ℕ) (p : ℕ) → isRunRaster (commandAt text p) ≡ cond (eqb (sizeAt text p) 0) false (eqb (byteAt text p) 0x90)
+pub raster-stands : (text : List ℕ) (p : ℕ) → isRunRaster (commandAt text p) ≡ cond (eqb (sizeAt text p) 0) false (eqb (byteAt text p) (numberOf RunRaster))
 unfolding sizeAt sizeOf
 raster-stands text p =
     of-command Stands text p refl refl refl (λ w. (λ e. rw e, (λ e. rw e, (λ e. rw e, (λ e. rw e, (λ e. rw e, (λ e. rw e, tt)))))))
   where
     Stands : Command → Type 0
-    Stands k = isRunRaster k ≡ cond (eqb (sizeOf (numberOf k)) 0) false (eqb (byteAt text p) 0x90)
+    Stands k = isRunRaster k ≡ cond (eqb (sizeOf (numberOf k)) 0) false (eqb (byteAt text p) (numberOf RunRaster))
 
 -- ── the starts counted on from a place
 module _ (text : List ℕ) where

@@ -11,7 +11,8 @@ use lib.ListN.{length}
 use borrow.Author.Tests.{eqb-true, eqb-false, lt-ltb, le-ltb, le-leb, lt-leb, eq-eqb, ne-eqb}
 use Rattle.octets.specs.Bytes.{byteAt}
 use Rattle.octets.proofs.Bools.{or-either, by-test}
-use Rattle.sequence.specs.Text.{sizeAt}
+use Rattle.sequence.specs.declared.Command.the-variants.{Expose}
+use Rattle.sequence.specs.Text.{numberOf, sizeAt}
 use Rattle.sequence.specs.Starts.{starts, among, exposesBetween, firstExposure}
 use Rattle.sequence.proofs.Laws.{starts-off, starts-from}
 use Rattle.sequence.proofs.Hops.{hops-le, start-hops, First, first-found}
@@ -63,11 +64,11 @@ module _ (text : List ℕ) (r q t : ℕ) where
     leads-before h l = rw (starts-from text p size e z, ne-eqb p t (λ f. omega arith), le-ltb r p l)
 
     module _ (seen now : Bool) (s : now ≡ (seen || eqb p t)) (h : r < p) (l : p < q) where
-      pub leads-on : (byteAt text p ≡ 0x91 → ⊥) → leads seen p ≡ leads now (p + size)
+      pub leads-on : (byteAt text p ≡ numberOf (Expose 0) → ⊥) → leads seen p ≡ leads now (p + size)
       unfolding among firstExposure exposesBetween
-      leads-on o = rw (s, starts-from text p size e z, lt-ltb r p h, lt-ltb p q l, ne-eqb (byteAt text p) 0x91 o, ← or-assoc seen (eqb p t))
+      leads-on o = rw (s, starts-from text p size e z, lt-ltb r p h, lt-ltb p q l, ne-eqb (byteAt text p) (numberOf (Expose 0)) o, ← or-assoc seen (eqb p t))
 
-      pub leads-at : byteAt text p ≡ 0x91 → (seen ≡ true → t < p) → now ≡ leads seen p
+      pub leads-at : byteAt text p ≡ numberOf (Expose 0) → (seen ≡ true → t < p) → now ≡ leads seen p
       unfolding among firstExposure exposesBetween
       leads-at o f =
           rw (s, starts-from text p size e z, lt-ltb r p h, lt-ltb p q l, o)

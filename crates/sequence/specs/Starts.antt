@@ -5,7 +5,8 @@ use mathlib.Core.List.{List, [], _∷_}
 use lib.Dec.{ltb, leb, eqb}
 use lib.ListN.{length}
 use Rattle.octets.specs.Bytes.{byteAt}
-use Rattle.sequence.specs.Text.{sizeAt, commandAt, isRunRaster}
+use Rattle.sequence.specs.declared.Command.the-variants.{Expose}
+use Rattle.sequence.specs.Text.{numberOf, sizeAt, commandAt, isRunRaster}
 
 -- the places at which commands start, counted on from p: at most as many as the text has bytes
 unfoldable pub starts : List ℕ → ℕ → ℕ → List ℕ
@@ -26,7 +27,7 @@ among t (p ∷ ps) = eqb p t || among t ps
 
 -- an expose at p, after the run raster at r and before the loop back at q
 unfoldable pub exposesBetween : List ℕ → ℕ → ℕ → ℕ → Bool
-exposesBetween text r q p = ltb r p && (ltb p q && eqb (byteAt text p) 0x91)
+exposesBetween text r q p = ltb r p && (ltb p q && eqb (byteAt text p) (numberOf (Expose 0)))
 
 -- "this raster's first exposure": the first of these places with such an expose, 0 where there is none
 unfoldable pub firstExposure : List ℕ → ℕ → ℕ → List ℕ → ℕ

@@ -1,13 +1,14 @@
 -- A sequence's text: its length, its checksum, its repeats, and the command at a place.
 use Prim.Native.Nat.{ℕ, _+_, _-_}
 use mathlib.Core.Bool.{Bool, true, false, cond, not, _&&_, _||_}
-use mathlib.Core.List.{List, [], _∷_}
+use mathlib.Core.List.{List, [], _∷_, map}
 use lib.Dec.{ltb, leb, eqb}
 use lib.ListN.{length, take}
 use Rattle.octets.specs.Bytes.{byteAt, wordAt, xorOf}
 use Rattle.octets.specs.Rows.{Row, row, firstCode}
 use Rattle.sequence.specs.declared.Command.{Command}
 use Rattle.sequence.specs.declared.Command.the-variants.{RunRaster, Expose, LoopBack, CallSequence, Terminate, Delay, Nothing, Unknown, Unfit}
+use Rattle.sequence.specs.declared.CommandRow.{CommandRow}
 use Rattle.sequence.specs.declared.Fault.{Fault}
 use Rattle.sequence.specs.declared.Header.{Header}
 use Rattle.sequence.specs.declared.Header.the-variants.{Repeats, Bad}
@@ -41,53 +42,49 @@ headerBy repeats code = cond (eqb code 0) (Repeats repeats) (Bad (fault code (he
 unfoldable pub headerOf : List ℕ → Header
 headerOf text = headerBy (byteAt text 3) (firstCode (headerRows text))
 
--- "Six commands, numbers ours"
+-- "Six commands, numbers ours: 90 run raster (23 bytes), 91 expose (word: time, not 0), 92 loop back (byte: place), 93 call (byte),
+-- 94 terminate, 95 delay (word, any)": row by row, the number and the bytes that the command takes
+abbrev pub takes : ℕ → ℕ → CommandRow
+takes op size = record { op = op; size = size }
+
+abbrev pub rowOf : Command → CommandRow
+rowOf RunRaster = takes 0x90 23
+rowOf (Expose time) = takes 0x91 3
+rowOf (LoopBack target) = takes 0x92 2
+rowOf (CallSequence n) = takes 0x93 2
+rowOf Terminate = takes 0x94 1
+rowOf (Delay time) = takes 0x95 3
+rowOf Nothing = takes 0 0
+rowOf Unknown = takes 0 0
+rowOf Unfit = takes 0 0
+
 abbrev pub numberOf : Command → ℕ
-numberOf RunRaster = 0x90
-numberOf (Expose time) = 0x91
-numberOf (LoopBack target) = 0x92
-numberOf (CallSequence n) = 0x93
-numberOf Terminate = 0x94
-numberOf (Delay time) = 0x95
-numberOf Nothing = 0
-numberOf Unknown = 0
-numberOf Unfit = 0
+numberOf k = rowOf k .op
 
--- "90 run raster (23 bytes), 91 expose (word: time, not 0), 92 loop back (byte: place), 93 call (byte), 94 terminate, 95 delay (word, any)":
--- a command with its operand, and the bytes that it takes
-pub record CommandRow : Type 0 where
-  pub command : Command
-  pub bytes : ℕ
+-- the six, with the operands that stand at a place
+abbrev pub commandsAt : List ℕ → ℕ → List Command
+commandsAt text at =
+    RunRaster ∷ Expose (wordAt text at) ∷ LoopBack (byteAt text at) ∷ CallSequence (byteAt text at) ∷ Terminate ∷ Delay (wordAt text at) ∷ []
 
-abbrev pub takes : Command → ℕ → CommandRow
-takes command bytes = record { command = command; bytes = bytes }
+abbrev pub commandTable : List CommandRow
+commandTable = map rowOf (commandsAt [] 0)
 
--- the rows, with the operands that stand at a place
-abbrev pub commandTable : List ℕ → ℕ → List CommandRow
-commandTable text at =
-    takes RunRaster 23
-    ∷ takes (Expose (wordAt text at)) 3
-    ∷ takes (LoopBack (byteAt text at)) 2
-    ∷ takes (CallSequence (byteAt text at)) 2
-    ∷ takes Terminate 1
-    ∷ takes (Delay (wordAt text at)) 3
-    ∷ []
-
--- the bytes, and the command, of the row with this number; a number that has no row takes none
+-- the bytes in the row of a number; a number that has no row takes none
 abbrev pub sizeIn : ℕ → List CommandRow → ℕ
 sizeIn n [] = 0
-sizeIn n (r ∷ rs) = cond (eqb n (numberOf (r .command))) (r .bytes) (sizeIn n rs)
-
-abbrev pub commandIn : ℕ → List CommandRow → Command
-commandIn n [] = Unknown
-commandIn n (r ∷ rs) = cond (eqb n (numberOf (r .command))) (r .command) (commandIn n rs)
+sizeIn n (r ∷ rs) = cond (eqb n (r .op)) (r .size) (sizeIn n rs)
 
 unfoldable pub sizeOf : ℕ → ℕ
-sizeOf n = sizeIn n (commandTable [] 0)
+sizeOf n = sizeIn n commandTable
+
+-- the one among these commands that has a number
+abbrev pub commandIn : ℕ → List Command → Command
+commandIn n [] = Unknown
+commandIn n (k ∷ ks) = cond (eqb n (numberOf k)) k (commandIn n ks)
 
 -- the command of the number at a place, with its operand
 unfoldable pub decoded : List ℕ → ℕ → Command
-decoded text p = commandIn (byteAt text p) (commandTable text (p + 1))
+decoded text p = commandIn (byteAt text p) (commandsAt text (p + 1))
 
 -- "No command there (also: place below 4, or length byte not 6 to 128)"
 unfoldable pub noneThere : List ℕ → ℕ → Bool

@@ -7,7 +7,7 @@ ghost use mathlib.Core.List.{_++_};
 ghost use lib.Dec.{eqb, leb};
 ghost use lib.ListN.{length, take, drop};
 ghost use Rattle.octets.specs.Bytes.{byteAt, wordAt, xorOf};
-ghost use Rattle.sequence.specs.Text.{limit, lengthGood, xorGood, headerOf, numberOf, sizeOf, sizeAt, noneThere, commandAt, isRunRaster};
+ghost use Rattle.sequence.specs.Text.{limit, lengthGood, xorGood, headerOf, numberOf, sizeOf, sizeAt, noneThere, decoded, commandAt, isRunRaster};
 ghost use Rattle.sequence.specs.Starts.{among, starts, firstExposure, targetGood};
 ghost use Rattle.sequence.specs.Raster.{rasterAt, flagsGood};
 ghost use Rattle.sequence.specs.LineList.{listCard};
@@ -25,6 +25,34 @@ pub enum Command {
     Unknown,
     Unfit,
 }
+
+// A row of the table of commands: a command's number, and the bytes that it takes.
+pub struct CommandRow {
+    pub op: u8,
+    pub size: u8,
+}
+
+pub const RUN_RASTER: CommandRow = CommandRow { op: 0x90, size: 23 };
+
+pub const EXPOSE: CommandRow = CommandRow { op: 0x91, size: 3 };
+
+pub const LOOP_BACK: CommandRow = CommandRow { op: 0x92, size: 2 };
+
+pub const CALL_SEQUENCE: CommandRow = CommandRow { op: 0x93, size: 2 };
+
+pub const TERMINATE: CommandRow = CommandRow { op: 0x94, size: 1 };
+
+pub const DELAY: CommandRow = CommandRow { op: 0x95, size: 3 };
+
+// The table: a number that is in none of its rows is unknown.
+const COMMANDS: [CommandRow; 6] = [
+    RUN_RASTER,
+    EXPOSE,
+    LOOP_BACK,
+    CALL_SEQUENCE,
+    TERMINATE,
+    DELAY,
+];
 
 // The eleven words of a run raster, every field of them.
 pub struct RasterWords {
@@ -77,15 +105,13 @@ fn index(at: Place) -> usize
 pub fn size_of(number: u8) -> u8
     ensures { λ r. ⌜ (r ≡ sizeOf number) × (r ≤ 23) ⌝ }
 {
-    match number {
-        0x90 => 23,
-        0x91 => 3,
-        0x92 => 2,
-        0x93 => 2,
-        0x94 => 1,
-        0x95 => 3,
-        _ => 0,
+    for k in 0..COMMANDS.len() {
+        let row = COMMANDS[k];
+        if row.op == number {
+            return row.size;
+        }
     }
+    0
 }
 
 // The place of the checksum.
@@ -169,6 +195,31 @@ fn word_in(text: &[u8], at: usize) -> u16
     octets::pair(text[at], text[at + 1])
 }
 
+// The command that stands whole at a place, its operand behind its number.
+fn decode(text: &[u8], at: usize) -> Command
+    requires { ⌜ 0 < sizeOf (byteAt (now text) at) ⌝ }
+    requires { ⌜ at + sizeOf (byteAt (now text) at) < length (now text) ⌝ }
+    ensures { λ r. ⌜ r ≡ decoded (now (text .entry)) at ⌝ }
+{
+    let number = text[at];
+    if number == RUN_RASTER.op {
+        return Command::RunRaster;
+    }
+    if number == EXPOSE.op {
+        return Command::Expose(word_in(text, at + 1));
+    }
+    if number == LOOP_BACK.op {
+        return Command::LoopBack(text[at + 1]);
+    }
+    if number == CALL_SEQUENCE.op {
+        return Command::CallSequence(text[at + 1]);
+    }
+    if number == TERMINATE.op {
+        return Command::Terminate;
+    }
+    Command::Delay(word_in(text, at + 1))
+}
+
 // What stands at a place, which may be any number.
 fn command_from(text: &[u8], at: usize) -> Command
     ensures { λ r. ⌜ r ≡ commandAt (now (text .entry)) at ⌝ }
@@ -176,22 +227,14 @@ fn command_from(text: &[u8], at: usize) -> Command
     if none_there(text, at) {
         return Command::Nothing;
     }
-    let number = text[at];
-    let size = size_of(number);
+    let size = size_of(text[at]);
     if size == 0 {
         return Command::Unknown;
     }
     if room(text, at) < size {
         return Command::Unfit;
     }
-    match number {
-        0x90 => Command::RunRaster,
-        0x91 => Command::Expose(word_in(text, at + 1)),
-        0x92 => Command::LoopBack(text[at + 1]),
-        0x93 => Command::CallSequence(text[at + 1]),
-        0x94 => Command::Terminate,
-        _ => Command::Delay(word_in(text, at + 1)),
-    }
+    decode(text, at)
 }
 
 // The command at a place.
@@ -344,7 +387,7 @@ pub fn raster_stands(text: &[u8], at: Place) -> bool
     if size_at(text, place) == 0 {
         return false;
     }
-    text[place] == 0x90
+    text[place] == RUN_RASTER.op
 }
 
 // The place past the command at a place, or the place itself where none stands there whole.
@@ -370,7 +413,7 @@ fn leads_to_exposure(text: &[u8], from: usize, q: usize, t: usize) -> bool
         if at == t {
             seen = true;
         }
-        if text[at] == 0x91 {
+        if text[at] == EXPOSE.op {
             return seen;
         }
         at += size;

@@ -22,7 +22,7 @@ use Rattle.sequence.specs.declared.Header.{Header}
 use Rattle.sequence.specs.declared.Header.the-variants.{Repeats, Bad}
 use Rattle.sequence.specs.declared.Fault.{Fault}
 use Rattle.sequence.specs.declared.ListCard.{ListCard}
-use Rattle.sequence.specs.Text.{fault, sizeOf, sizeAt, commandAt, headerOf}
+use Rattle.sequence.specs.Text.{rowOf, fault, sizeOf, sizeAt, commandAt, headerOf}
 use Rattle.sequence.specs.Starts.{targetGood}
 use Rattle.sequence.specs.Raster.{rasterAt}
 use Rattle.sequence.specs.Env.{Env}
@@ -139,12 +139,12 @@ Aims text q t (Open r c left) = targetGood text (r .0) q t ≡ true
 -- what a judgement tells of the command at its place: its size, and of a loop back its target
 abbrev pub Sized : List ℕ → ℕ → Opened → Act → Type 0
 Sized text p o (Refused code) = Unit {0}
-Sized text p o Opens = sizeAt text p ≡ 23
-Sized text p o (Exposes r) = sizeAt text p ≡ 3
-Sized text p o (Loops t) = (sizeAt text p ≡ 2) × (t ≤ 255) × Aims text p t o
-Sized text p o Waits = sizeAt text p ≡ 3
-Sized text p o (Calls n) = sizeAt text p ≡ 2
-Sized text p o Ends = sizeAt text p ≡ 1
+Sized text p o Opens = sizeAt text p ≡ rowOf RunRaster .size
+Sized text p o (Exposes r) = sizeAt text p ≡ rowOf (Expose 0) .size
+Sized text p o (Loops t) = (sizeAt text p ≡ rowOf (LoopBack t) .size) × (t ≤ 255) × Aims text p t o
+Sized text p o Waits = sizeAt text p ≡ rowOf (Delay 0) .size
+Sized text p o (Calls n) = sizeAt text p ≡ rowOf (CallSequence n) .size
+Sized text p o Ends = sizeAt text p ≡ rowOf Terminate .size
 
 sized-unless : (text : List ℕ) (p : ℕ) (o : Opened) (code : ℕ) (a : Act) → (eqb code 0 ≡ true → Sized text p o a) → Sized text p o (unless code a)
 sized-unless text p o code a s = choice (Sized text p o) (eqb code 0) a (Refused code) s (λ _. tt)
@@ -196,10 +196,10 @@ going-start cards text short =
 -- the round past the command of an act, where the walk goes on
 abbrev pub roundPast : List ℕ → Place → Round → Act → Round
 roundPast text at r (Refused code) = r
-roundPast text at r Opens = moved 23 (Open at 0 (rasterAt text (at .0) .repeats)) 0 0 r
-roundPast text at r (Exposes o) = moved 3 (oneMore (r .held)) 0 0 r
+roundPast text at r Opens = moved (rowOf RunRaster .size) (Open at 0 (rasterAt text (at .0) .repeats)) 0 0 r
+roundPast text at r (Exposes o) = moved (rowOf (Expose 0) .size) (oneMore (r .held)) 0 0 r
 roundPast text at r (Loops t) = loopedIn text t (r .held) r
-roundPast text at r Waits = moved 3 (r .held) (pauseIn (r .held)) 0 r
+roundPast text at r Waits = moved (rowOf (Delay 0) .size) (r .held) (pauseIn (r .held)) 0 r
 roundPast text at r (Calls n) = r
 roundPast text at r Ends = r
 
@@ -226,8 +226,8 @@ module _ (cards : ℕ → ListCard) (text : List ℕ) (f p k x : ℕ) where
   comes-so o (Exposes r) s h = rw (s, add-zero k, add-zero x)
   comes-so Shut (Loops t) s h = absurd (s .2)
   comes-so (Open r c m) (Loops t) (s, b, g) ((i, hr), (n, hp)) =
-      rw (s, scan-counted text (r .0) t p i n hr hp (omega arith) g) (walked-front text (countedScan text (r .0) t p) k x (walk cards text f (p + 2) Shut))
-  comes-so Shut Waits s h = rw s (walked-front text (Pause p) k x (walk cards text f (p + 3) Shut))
+      rw (s, scan-counted text (r .0) t p i n hr hp (omega arith) g) (walked-front text (countedScan text (r .0) t p) k x (walk cards text f (p + rowOf (LoopBack 0) .size) Shut))
+  comes-so Shut Waits s h = rw s (walked-front text (Pause p) k x (walk cards text f (p + rowOf (Delay 0) .size) Shut))
   comes-so (Open r c m) Waits s h = rw (s, add-zero k, add-zero x)
   comes-so o (Calls m) s h = rw (add-zero x)
   comes-so o Ends s h = rw (add-zero x)
@@ -240,11 +240,11 @@ module _ (cards : ℕ → ListCard) (text : List ℕ) (f p k x : ℕ) where
       → Reached text (roundPast text (placeAt p) (round p o k x) a .place) (roundPast text (placeAt p) (round p o k x) a .held)
   reached-past o (Refused code) s h = h
   reached-past o Opens s h = let g : Hops text p (p + sizeAt text p) 1 = hop {p = p} (omega arith) here in (reached-start text p o h, (0, rw s at g))
-  reached-past Shut (Exposes r) s h = moves Shut 3 s (omega arith) h
-  reached-past (Open r c m) (Exposes r′) s h = moves (Open r c m) 3 s (omega arith) h
+  reached-past Shut (Exposes r) s h = moves Shut (rowOf (Expose 0) .size) s (omega arith) h
+  reached-past (Open r c m) (Exposes r′) s h = moves (Open r c m) (rowOf (Expose 0) .size) s (omega arith) h
   reached-past Shut (Loops t) s h = absurd (s .2)
-  reached-past (Open r c m) (Loops t) s h = moves Shut 2 (s .0) (omega arith) (reached-start text p (Open r c m) h)
-  reached-past o Waits s h = moves o 3 s (omega arith) h
+  reached-past (Open r c m) (Loops t) s h = moves Shut (rowOf (LoopBack 0) .size) (s .0) (omega arith) (reached-start text p (Open r c m) h)
+  reached-past o Waits s h = moves o (rowOf (Delay 0) .size) s (omega arith) h
   reached-past o (Calls m) s h = h
   reached-past o Ends s h = h
 

@@ -6,7 +6,8 @@ use mathlib.Core.List.{List, [], _∷_, _++_, reverse}
 use lib.Dec.{ltb, eqb}
 use lib.ListN.{length, getD, replicate}
 use Rattle.memory.specs.declared.Format.{Format}
-use Rattle.sequence.specs.Text.{fault, sizeAt}
+use Rattle.sequence.specs.declared.Command.the-variants.{LoopBack}
+use Rattle.sequence.specs.Text.{rowOf, fault, sizeAt}
 use Rattle.sequence.specs.Starts.{among}
 use Rattle.runner.specs.declared.Opened.{Opened}
 use Rattle.runner.specs.declared.Opened.the-variants.{Shut, Open}
@@ -56,10 +57,10 @@ countedScan text r t q = Scan r t q (between text t (r + sizeAt text r) t) (betw
 
 -- past a loop back to t: the open raster is an item of the round
 abbrev pub scannedIn : List ℕ → Item → Round → Round
-scannedIn text i r = moved 2 Shut (itemSteps text i) (itemExposures text i) r
+scannedIn text i r = moved (rowOf (LoopBack 0) .size) Shut (itemSteps text i) (itemExposures text i) r
 
 abbrev pub loopedIn : List ℕ → ℕ → Opened → Round → Round
-loopedIn text t Shut r = moved 2 Shut 0 0 r
+loopedIn text t Shut r = moved (rowOf (LoopBack t) .size) Shut 0 0 r
 loopedIn text t (Open at c left) r = scannedIn text (countedScan text (at .0) t (r .place)) r
 
 -- ── all rounds

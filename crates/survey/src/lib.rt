@@ -4,7 +4,8 @@ ghost use Prim.Native.Nat.{ℕ, _+_, _≤_, _<_, _^_};
 ghost use mathlib.Core.List.{List};
 ghost use lib.ListN.{length, take};
 ghost use Rattle.memory.specs.Memory.{flight, Fair};
-ghost use Rattle.sequence.specs.Text.{sizeAt};
+ghost use Rattle.sequence.specs.declared.Command.the-variants.{LoopBack};
+ghost use Rattle.sequence.specs.Text.{rowOf, sizeAt};
 ghost use Rattle.sequence.specs.Raster.{rasterAt};
 ghost use Rattle.sequence.specs.Env.{cardsOf, envOf};
 ghost use Rattle.survey.specs.Items.{rasterSteps, rasterExposures};
@@ -167,18 +168,18 @@ impl Round {
 
     // The round past a loop back to this place, with the raster that it closes.
     fn loops(self, format: Format, text: &[u8], t: u8) -> Round
-        requires { ⌜ RoomFor 2 (2 ^ 37) (2 ^ 37) self × (length (now text) ≤ format .size) ⌝ }
+        requires { ⌜ RoomFor (rowOf (LoopBack t) .size) (2 ^ 37) (2 ^ 37) self × (length (now text) ≤ format .size) ⌝ }
         ensures { λ r. ⌜ r ≡ loopedIn (now (text .entry)) t (self .held) self ⌝ }
     {
         let held = self.held;
         let Opened::Open(at, _, _) = held else {
-            return self.past(2, Opened::Shut, 0, 0);
+            return self.past(sequence::LOOP_BACK.size, Opened::Shut, 0, 0);
         };
         let before = between(format, text, t, sequence::past(text, at), t);
         let from = between(format, text, self.place, t, self.place);
         let steps = raster_steps(text, at, before, from);
         let exposures = raster_exposures(text, at);
-        self.past(2, Opened::Shut, steps, exposures)
+        self.past(sequence::LOOP_BACK.size, Opened::Shut, steps, exposures)
     }
 
     // The round closed by the command at its place, which is a step too.
@@ -217,11 +218,11 @@ fn walk(format: Format, text: &[u8], lists: &[u8]) -> Walked
             Act::Refused(code) => return Walked::Faulty(Fault { code, place }),
             Act::Opens => {
                 let opened = Opened::Open(at, 0, sequence::repeats_at(text, at));
-                round.past(23, opened, 0, 0)
+                round.past(sequence::RUN_RASTER.size, opened, 0, 0)
             }
-            Act::Exposes(_) => round.past(3, one_more(held), 0, 0),
+            Act::Exposes(_) => round.past(sequence::EXPOSE.size, one_more(held), 0, 0),
             Act::Loops(t) => round.loops(format, text, t),
-            Act::Waits => round.past(3, held, pause(held), 0),
+            Act::Waits => round.past(sequence::DELAY.size, held, pause(held), 0),
             Act::Calls(n) => return round.closes(Closing::CallsOn(n)),
             Act::Ends => return round.closes(Closing::Terminates),
         };

@@ -5,7 +5,8 @@ use mathlib.Core.List.{List, [], _∷_, _++_}
 use lib.Dec.{ltb, eqb}
 use Rattle.octets.specs.Bytes.{byteAt, wordAt}
 use Rattle.sequence.specs.declared.RasterWords.{RasterWords}
-use Rattle.sequence.specs.Text.{sizeAt}
+use Rattle.sequence.specs.declared.Command.the-variants.{Expose}
+use Rattle.sequence.specs.Text.{numberOf, sizeAt}
 use Rattle.sequence.specs.Raster.{rasterAt, startOf}
 use Rattle.runner.specs.declared.Sight.{Sight}
 use Rattle.runner.specs.declared.Event.the-variants.{Enter, Raster, Exp, Loop, Next, Done, Wait, Call, End}
@@ -20,7 +21,7 @@ use Rattle.promises.specs.Runs.{sight}
 -- ── in a raster
 -- exposures in the set after the command at p
 abbrev pub counted : List ℕ → ℕ → ℕ → ℕ
-counted text p c = cond (eqb (byteAt text p) 0x91) (c + 1) c
+counted text p c = cond (eqb (byteAt text p) (numberOf (Expose 0))) (c + 1) c
 
 -- the mirror with c exposures in the set, in a pass that begins at m; `again`: passes come after this one
 abbrev pub mirrorIn : RasterWords → Bool → ℕ → ℕ → ℕ
@@ -29,7 +30,7 @@ mirrorIn raster again m c = cond (again && eqb c (setOf raster)) (m + raster .st
 -- the exposure or the delay at p, with c exposures in the set before it
 abbrev pub lineSight : List ℕ → ℕ → RasterWords → Bool → ℕ → ℕ → ℕ → Sight
 lineSight text n raster again m p c =
-    cond (eqb (byteAt text p) 0x91)
+    cond (eqb (byteAt text p) (numberOf (Expose 0)))
     (sight (Exp m) n (p + sizeAt text p) (mirrorIn raster again m (c + 1)))
     (sight (Wait (wordAt text (p + 1))) n (p + sizeAt text p) (mirrorIn raster again m c))
 

@@ -143,17 +143,17 @@ module _ (E : Env) (text : List ℕ) (p : ℕ) where
   bytes-of : (k : Command) → commandAt text p ≡ k → Bytes text p k
   bytes-of k e = subst (Bytes text p) e (command-bytes text p)
 
-  pub waits-byte : (o : Opened) → judge (E .cards) text p o ≡ Waits → eqb (byteAt text p) 0x91 ≡ false
+  pub waits-byte : (o : Opened) → judge (E .cards) text p o ≡ Waits → eqb (byteAt text p) (numberOf (Expose 0)) ≡ false
   waits-byte o j =
       let (t, k) = waits-there (view-of o Waits j) in
       let b = bytes-of (Delay t) k in
-      ne-eqb (byteAt text p) 0x91 (λ e. omega arith)
+      ne-eqb (byteAt text p) (numberOf (Expose 0)) (λ e. omega arith)
 
-  pub exposes-byte : (o : Opened) (r : Place) → judge (E .cards) text p o ≡ Exposes r → eqb (byteAt text p) 0x91 ≡ true
+  pub exposes-byte : (o : Opened) (r : Place) → judge (E .cards) text p o ≡ Exposes r → eqb (byteAt text p) (numberOf (Expose 0)) ≡ true
   exposes-byte o r j =
       let (t, k) = exposes-there (view-of o (Exposes r) j) in
       let b = bytes-of (Expose t) k in
-      eq-eqb (byteAt text p) 0x91 (b .0)
+      eq-eqb (byteAt text p) (numberOf (Expose 0)) (b .0)
 
   -- ── the bytes that a command takes
   pub size-some : (k : Command) → commandAt text p ≡ k → 0 < sizeOf (numberOf k) → 0 < sizeAt text p

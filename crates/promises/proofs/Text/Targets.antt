@@ -11,7 +11,8 @@ use borrow.Author.Tests.{ltb-true, eqb-true}
 use Rattle.octets.specs.Bytes.{byteAt}
 use Rattle.octets.proofs.Bools.{and-both}
 use Rattle.memory.specs.Memory.{placeAt}
-use Rattle.sequence.specs.Text.{sizeAt}
+use Rattle.sequence.specs.declared.Command.the-variants.{Expose}
+use Rattle.sequence.specs.Text.{numberOf, sizeAt}
 use Rattle.sequence.specs.Starts.{startsOf, among, firstExposure, targetGood}
 use Rattle.sequence.specs.Raster.{rasterAt}
 use Rattle.sequence.specs.Env.{Env}
@@ -66,7 +67,7 @@ split {E} {text} {r} {t} (delay {p} j l) z (hop y g) a b x s i f h = put (split 
     put d = record { from = d .from; first = delay j (d .first); again = d .again; joined = (let e = d .joined in omega arith) }
 split {E} {text} {r} {t} (expose {p} {c} j v l) z (hop y g) a b x s i f h =
     let w = hops-le g in
-    absurd (f .none p a s i (omega arith) y (eqb-true (byteAt text p) 0x91 (exposes-byte E text p _ (placeAt r) (j 0))))
+    absurd (f .none p a s i (omega arith) y (eqb-true (byteAt text p) (numberOf (Expose 0)) (exposes-byte E text p _ (placeAt r) (j 0))))
 
 pub target-size : (text : List ℕ) (r q t : ℕ) → targetGood text r q t ≡ true → 0 < sizeAt text t
 unfolding targetGood startsOf

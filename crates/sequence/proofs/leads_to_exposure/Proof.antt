@@ -34,23 +34,23 @@ shared-slice-read-if3 : tie.Need-shared-slice-read-if3 Inv-loop μ-loop
 shared-slice-read-if3 c = omega (arith, next-inside _ _ _ (c .before .before .before .size-at .ensures) (c .before .before .if1 .left))
 
 returns-2 : tie.Need-returns-2 Inv-loop μ-loop
-returns-2 c = λ r h. let l = c .before .before .before .before .before .before .loop in
-    leads-at _ r _ _ (l .at) _ (c .before .before .before .before .size-at .ensures) (c .before .before .before .if1 .left) (l .seen) _ (seen-now (c .before .before)) (omega arith) (c .before .before .before .before .before .loop-test .taken) (c .if3 .taken) (l .inv .1 .0)
+returns-2 c = λ r h. let l = c .before .before .before .before .before .before .before .loop in
+    leads-at _ r _ _ (l .at) _ (c .before .before .before .before .before .size-at .ensures) (c .before .before .before .before .if1 .left) (l .seen) _ (seen-now (c .before .before .before)) (omega arith) (c .before .before .before .before .before .before .loop-test .taken) (c .if3 .taken) (l .inv .1 .0)
     ∙ sym (l .inv .1 .1 r h)
 
 add-at : tie.Need-add-at Inv-loop μ-loop
-add-at c = omega (arith, next-inside _ _ _ (c .before .before .before .before .size-at .ensures) (c .before .before .before .if1 .left))
+add-at c = omega (arith, next-inside _ _ _ (c .before .before .before .before .before .size-at .ensures) (c .before .before .before .before .if1 .left))
 
 loop-less : tie.Need-loop-less Inv-loop μ-loop
-loop-less c = omega (arith, next-inside _ _ _ (c .before .before .before .before .size-at .ensures) (c .before .before .before .if1 .left))
+loop-less c = omega (arith, next-inside _ _ _ (c .before .before .before .before .before .size-at .ensures) (c .before .before .before .before .if1 .left))
 
 loop-again : tie.Need-loop-again Inv-loop μ-loop
-loop-again c = let l = c .before .before .before .before .before .before .loop in let s = seen-now (c .before .before) in (
+loop-again c = let l = c .before .before .before .before .before .before .before .loop in let s = seen-now (c .before .before .before) in (
   omega arith,
   (
     λ e. omega (arith, seen-by (l .at) _ (l .seen) (l .inv .1 .0) (sym s ∙ e)),
     λ r h. l .inv .1 .1 r h
-        ∙ leads-on _ r _ _ (l .at) _ (c .before .before .before .before .size-at .ensures) (c .before .before .before .if1 .left) (l .seen) _ s (omega arith) (c .before .before .before .before .before .loop-test .taken) (c .if3 .left),
+        ∙ leads-on _ r _ _ (l .at) _ (c .before .before .before .before .before .size-at .ensures) (c .before .before .before .before .if1 .left) (l .seen) _ s (omega arith) (c .before .before .before .before .before .before .loop-test .taken) (c .if3 .left),
   ),
 )
 

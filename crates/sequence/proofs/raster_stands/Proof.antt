@@ -13,7 +13,7 @@ shared-slice-read-result : tie.Need-shared-slice-read-result
 shared-slice-read-result c = omega (arith, next-inside _ _ _ (c .before .before .size-at .ensures) (c .before .if1 .left))
 
 returns-2 : tie.Need-returns-2
-returns-2 c = rw (raster-stands, ← c .before .before .before .index .ensures .0, ← c .before .before .size-at .ensures, ne-eqb _ _ (c .before .if1 .left))
+returns-2 c = rw (raster-stands, ← c .before .before .before .before .index .ensures .0, ← c .before .before .before .size-at .ensures, ne-eqb _ _ (c .before .before .if1 .left))
 
 pub raster-stands-spec : {M : Type 1} → statement M
 raster-stands-spec =

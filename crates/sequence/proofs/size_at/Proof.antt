@@ -1,7 +1,7 @@
 -- Each way out is the definition's branch.
 use Prim.Native.Nat.{_+_}
 use native.Mathlib.Omega.{arith}
-use mathlib.Core.Path.{_≡_, refl, sym, _∙_}
+use mathlib.Core.Path.{_≡_, sym, _∙_}
 use mathlib.Core.Bool.{false}
 use borrow.Author.Tests.{ne-eqb, lt-ltb}
 use borrow.Author.Needs.{needs}
@@ -29,7 +29,7 @@ returns-2 c = let s = c .before .before .size-of in let n = some (c .before .bef
     simp (n, ← s .ensures .0, ne-eqb (s .result) 0 (λ z. omega arith), ← c .before .room .ensures, lt-ltb (p + c .before .room .result) (p + s .result) (omega arith)) size-zero
 
 returns-3 : tie.Need-returns-3
-returns-3 c = c .before .before .size-of .ensures .0 ∙ sym (size-stands _ _ _ refl (some (c .before .before .before .before)) (omega arith))
+returns-3 c = c .before .before .size-of .ensures .0 ∙ sym (size-stands _ _ (some (c .before .before .before .before)) (omega arith))
 
 pub size-at-spec : {M : Type 1} → statement M
 size-at-spec =

@@ -49,21 +49,21 @@ returns-2 : tie.Need-returns-2 Inv-loop μ-loop
 returns-2 c = comes-whole (turn (c .before .before .before)) (Refused _) (c .before .code .given .1)
 
 past-requires : tie.Need-past-requires Inv-loop μ-loop
-past-requires c κs = let t = turn (c .before .before .before) in let s = told t Opens (c .before .enum-told2 .given .1) in going-fits t 23 0 0 (omega arith) (omega arith) (omega arith)
+past-requires c κs = let t = turn (c .before .before .before) in let s = told t Opens (c .before .enum-told2 .given .1) in going-fits t _ 0 0 (omega arith) (omega arith) (omega arith)
 
 one-more-requires : tie.Need-one-more-requires Inv-loop μ-loop
 one-more-requires c κs = let t = turn (c .before .before) in let h = t .here in let w = t .going .within in omega (arith, t .fair .size)
 
 past-requires-2 : tie.Need-past-requires-2 Inv-loop μ-loop
-past-requires-2 c κs = let t = turn (c .before .before .before) in let s = told t (Exposes _) (c .before .enum-told3 .given .1) in going-fits t 3 0 0 (omega arith) (omega arith) (omega arith)
+past-requires-2 c κs = let t = turn (c .before .before .before) in let s = told t (Exposes _) (c .before .enum-told3 .given .1) in going-fits t _ 0 0 (omega arith) (omega arith) (omega arith)
 
 loops-requires : tie.Need-loops-requires Inv-loop μ-loop
 loops-requires c κs = let j = c .before .before .before in let t = turn j in
     let s = told t (Loops _) (c .before .t .given .1) in
-    (going-fits t 2 (2 ^ 37) (2 ^ 37) (omega arith) (omega arith) (omega arith), start j .pre .1)
+    (going-fits t _ (2 ^ 37) (2 ^ 37) (omega arith) (omega arith) (omega arith), start j .pre .1)
 
 past-requires-3 : tie.Need-past-requires-3 Inv-loop μ-loop
-past-requires-3 c κs = let j = c .before .before .before in let t = turn j in let s = told t Waits (c .before .enum-told4 .given .1) in going-fits t 3 _ 0 (omega arith) (rw (c .pause .ensures) (pause-most (loop j .loop .round .held))) (omega arith)
+past-requires-3 c κs = let j = c .before .before .before in let t = turn j in let s = told t Waits (c .before .enum-told4 .given .1) in going-fits t _ _ 0 (omega arith) (rw (c .pause .ensures) (pause-most (loop j .loop .round .held))) (omega arith)
 
 closes-requires : tie.Need-closes-requires Inv-loop μ-loop
 closes-requires c κs = let w = turn (c .before .before .before) .going .within in omega arith

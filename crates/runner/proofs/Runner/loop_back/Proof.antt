@@ -20,14 +20,14 @@ returns-3 : tie.Need-returns-3
 unfolding act looped
 returns-3 c = rw (← c .before .before .before .before .before .before .before .before .opened .ensures, ← c .before .before .before .before .before .before .before .loop-fault .ensures, c .before .before .before .before .before .before .if1 .left, le-ltb _ _ (c .before .before .before .if2 .left), lt-ltb _ _ (c .before .if3 .taken), c .repeat-over .ensures)
 
-add-t27 : tie.Need-add-t27
+add-t28 : tie.Need-add-t28
 unfolding sizeOf
-add-t27 c = let h = c .before .before .before .before .before .before .before .before .before .before .pre .fits in search needs
+add-t28 c = let h = c .before .before .before .before .before .before .before .before .before .before .before .pre .fits in search needs
 
 returns-4 : tie.Need-returns-4
 unfolding act looped sizeOf
 returns-4 c =
-    let b = c .before in
+    let b = c .before .before in
     let a = b .before .before .before .before .before .before .before .before .before .before in
     rw (← b .before .before .before .before .before .before .before .before .opened .ensures, ← b .before .before .before .before .before .before .before .loop-fault .ensures, b .before .before .before .before .before .before .if1 .left, le-ltb _ _ (b .before .before .before .if2 .left), le-ltb _ _ (b .before .if3 .left), c .shut .ensures, ← past-is (a .args .text .now) (a .args .self) (LoopBack (a .args .target)) (a .pre))
 
@@ -43,6 +43,6 @@ loop-back-spec =
     returns-2
     (λ c κs. search needs)
     returns-3
-    add-t27
+    add-t28
     (λ c κs. search needs)
     returns-4)

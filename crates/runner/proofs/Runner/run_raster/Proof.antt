@@ -12,9 +12,9 @@ returns : tie.Need-returns
 unfolding act
 returns c = rw (← c .before .before .before .opened .ensures, ← c .before .before .run-fault .ensures, ne-eqb _ _ (c .before .if1 .taken)) (c .refused .ensures)
 
-add-t37 : tie.Need-add-t37
+add-t39 : tie.Need-add-t39
 unfolding sizeOf
-add-t37 c = let h = c .before .before .before .before .before .before .before .before .before .before .before .pre .1 .fits in search needs
+add-t39 c = let h = c .before .before .before .before .before .before .before .before .before .before .before .pre .1 .fits in search needs
 
 returns-2 : tie.Need-returns-2
 unfolding act
@@ -50,7 +50,7 @@ run-raster-spec =
     (λ c κs. search needs)
     (λ c κs. search needs)
     (λ c κs. search needs)
-    add-t37
+    add-t39
     (λ c κs. search needs)
     (λ c κs. search needs)
     (λ c κs. search needs)
