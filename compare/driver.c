@@ -37,7 +37,7 @@ static struct {
 /* What has been seen. */
 static struct {
     unsigned long power_on, packets, steps, checks, runs, turns;
-    unsigned long codes[18], events[12], aborts[16], passes[3], faults[16], refused[17];
+    unsigned long codes[18], events[12], aborts[16], passes[3], faults[16], reasons[4], refused[17];
     unsigned longest_chain;
 } seen;
 
@@ -193,12 +193,14 @@ static void check(uint32_t number)
     compare_answers(k, p);
     compare_all();
     seen.checks++;
-    if (now.report_len != PLAIN_REPORT || plain.report[1] == PLAIN_NOTHING)
+    if (now.report_len != PLAIN_REPORT || plain.report[1] == PLAIN_NOTHING) {
         seen.refused[p]++;
-    else if (plain.report[1] == PLAIN_FAULT)
+    } else if (plain.report[1] == PLAIN_FAULT) {
         seen.faults[p]++;
-    else
+        seen.reasons[plain.report[4]]++;
+    } else {
         seen.passes[plain.report[1]]++;
+    }
     count = plain.report[6] * 256u + plain.report[7];
     if (now.report_len == PLAIN_REPORT && count > seen.longest_chain)
         seen.longest_chain = count;
@@ -318,6 +320,7 @@ static void show_counts(void)
     printf("  ends: %lu  returns: %lu  longest chain: %u\n", seen.passes[PLAIN_ENDS], seen.passes[PLAIN_RETURNS],
            seen.longest_chain);
     row("faults by code", seen.faults, 16);
+    row("faults by reason", seen.reasons, 4);
     row("refused by code", seen.refused, 17);
     printf("long runs  %10lu, of %lu turns in all\n", seen.runs, seen.turns);
 }

@@ -89,6 +89,24 @@ static void mend_long_list(uint8_t *list)
         list[3] ^= xor_over(list, list[0]);
 }
 
+/* Makes a line list's windows, length or checksum wrong, or more than one of them; what is not to be
+ * wrong is made right for the rest. */
+static void spoil_line_list(uint8_t *list)
+{
+    unsigned wrong = between(1, 7), length = list[0];
+
+    if (wrong & 1) {
+        list[2] = (uint8_t)(any(2) * between(26, 40));
+        length = 14 + 6u * list[2];
+    }
+    if (wrong & 2)
+        length ^= 1u << any(8);
+    list[0] = (uint8_t)length;
+    list[3] ^= xor_over(list, length < LIST_ENTRY ? length : LIST_ENTRY);
+    if (wrong & 4)
+        list[3] ^= (uint8_t)(1 << any(8));
+}
+
 /* ---- Sequences ---- */
 
 /* What the closing commands of a table do. */
@@ -320,6 +338,9 @@ void make_tables(uint8_t *seqs, uint8_t *lists)
         mend_long_list(lists + LIST_ENTRY * i);
     for (unsigned i = 0; i < SEQUENCES; i++)
         make_sequence(seqs + ENTRY * i, i, damage);
+    for (unsigned i = 0; i < LISTS; i++)
+        if (chance(damage / 2))
+            spoil_line_list(lists + LIST_ENTRY * i);
 }
 
 /* ---- A ring of full sequences ---- */

@@ -393,13 +393,20 @@ static unsigned raster_step(const uint8_t *r) { return word(r + 19); }
 static unsigned raster_list(const uint8_t *r) { return r[21]; }
 static unsigned raster_flags(const uint8_t *r) { return r[22] & SCIENCE_FLAGS; }
 
-static bool list_good(const uint8_t *list)
+struct plain_reason plain_line_list(const uint8_t *list)
 {
-    unsigned windows = list[2];
-    if (windows < 1 || windows > 25 || list[0] != 14 + 6 * windows)
-        return false;
-    /* Byte 3 is the XOR of the others, so that with it the whole comes to 0. */
-    return xor_of(list, list[0]) == 0;
+    struct plain_reason reason = {PLAIN_GOOD, 0};
+    unsigned windows = list[2], off;
+    if (windows < 1 || windows > 25) {
+        reason.number = PLAIN_WINDOWS;
+    } else if (list[0] != 14 + 6 * windows) {
+        reason.number = PLAIN_LENGTH;
+    } else if ((off = xor_of(list, list[0])) != 0) {
+        /* With a right byte 3 the whole comes to 0; else to the bits in which byte 3 is wrong. */
+        reason.number = PLAIN_CHECKSUM;
+        reason.expected = (uint8_t)(list[3] ^ off);
+    }
+    return reason;
 }
 
 /* The entering of a sequence: its code, or 0; a fault sets *place. */
@@ -423,7 +430,7 @@ static unsigned raster_fault(const uint8_t *r, const uint8_t *lists)
         return BAD_EXPOSURES;
     if (raster_list(r) > LAST_LINE_LIST)
         return BAD_LIST_NUMBER;
-    if (!list_good(lists + LINE_LIST_ENTRY * raster_list(r)))
+    if (plain_line_list(lists + LINE_LIST_ENTRY * raster_list(r)).number != PLAIN_GOOD)
         return BAD_LINE_LIST;
     if (raster_initial(r) > END_STOP || raster_step(r) > END_STOP ||
         raster_initial(r) + (raster_loops(r) - 1) * raster_step(r) > END_STOP)
@@ -626,6 +633,7 @@ enum { CHAIN = 24 }; /* where a report's list of sequences begins */
 struct finding {
     unsigned place;     /* of the command looked at last; a fault's place */
     unsigned next;      /* the sequence called, or NONE */
+    struct plain_reason reason;
     uint64_t steps;
     uint64_t exposures;
 };
@@ -657,6 +665,7 @@ static unsigned check_sequence(const uint8_t *text, const uint8_t *lists, struct
     uint64_t steps = 0, exposures = 0;
     unsigned code = entry_fault(text, &f->place);
 
+    f->reason = (struct plain_reason){PLAIN_GOOD, 0};
     if (code != 0)
         return code;
     for (place = FIRST_COMMAND;; place += size) {
@@ -671,6 +680,8 @@ static unsigned check_sequence(const uint8_t *text, const uint8_t *lists, struct
             raster = text + place;
             set = 0;
             code = raster_fault(raster, lists);
+            if (code == BAD_LINE_LIST)
+                f->reason = plain_line_list(lists + LINE_LIST_ENTRY * raster_list(raster));
             if (code != 0)
                 return code;
             break;
@@ -703,12 +714,14 @@ static unsigned check_sequence(const uint8_t *text, const uint8_t *lists, struct
     }
 }
 
-static uint32_t report_fault(uint8_t *report, unsigned code, unsigned sequence, unsigned place)
+static uint32_t report_fault(uint8_t *report, unsigned code, unsigned sequence, const struct finding *f)
 {
     report[0] = (uint8_t)code;
     report[1] = PLAIN_FAULT;
     report[2] = (uint8_t)sequence;
-    report[3] = (uint8_t)place;
+    report[3] = (uint8_t)f->place;
+    report[4] = f->reason.number;
+    report[5] = f->reason.expected;
     return code;
 }
 
@@ -746,7 +759,7 @@ uint32_t plain_check(const uint8_t *seqs, size_t seqs_len, const uint8_t *lists,
         put_word(report + 6, count);
         code = check_sequence(seqs + ENTRY * sequence, lists, &found);
         if (code != 0)
-            return report_fault(report, code, sequence, found.place);
+            return report_fault(report, code, sequence, &found);
         steps += found.steps;
         exposures += found.exposures;
         if (found.next == NONE)

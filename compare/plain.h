@@ -1,7 +1,7 @@
 /*
- * The control unit in plain C, written from document 01 alone: it shares no text with the proved
- * library, and stands beside it to be compared. The four calls, the lent bytes and the answers are
- * those of keel.h, under other names.
+ * The control unit in plain C, written from document 01 alone, P4's reasons added: it shares no text
+ * with the proved library, and stands beside it to be compared. The four calls, the lent bytes and the
+ * answers are those of keel.h, under other names; the test of a line list is for the desk's table check.
  */
 #ifndef PLAIN_H
 #define PLAIN_H
@@ -37,6 +37,15 @@ enum {
 /* How a check ended: byte 1 of its report. */
 enum { PLAIN_NOTHING, PLAIN_ENDS, PLAIN_RETURNS, PLAIN_FAULT };
 
+/* What is wrong with a line list: byte 4 of a report. */
+enum { PLAIN_GOOD, PLAIN_WINDOWS, PLAIN_LENGTH, PLAIN_CHECKSUM };
+
+/* Why a line list is bad; the checksum expected where that is wrong, else 0. */
+struct plain_reason {
+    uint8_t number;
+    uint8_t expected;
+};
+
 /* Sets the state at power-on. Answers 0, or 16. */
 uint32_t plain_power_on(uint8_t *state, size_t state_len);
 
@@ -58,5 +67,8 @@ uint32_t plain_check(const uint8_t *seqs, size_t seqs_len,
                      const uint8_t *lists, size_t lists_len,
                      uint32_t number,
                      uint8_t *report, size_t report_len);
+
+/* Tests a line list, in its entry of 164 bytes. */
+struct plain_reason plain_line_list(const uint8_t *list);
 
 #endif

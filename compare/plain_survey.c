@@ -1,6 +1,7 @@
 /*
  * The table check at the desk, over plain.h. Standard input is the two dumps put together: the
- * sequence table, then the line lists. Arguments are sequence numbers; none means all of them.
+ * sequence table, then the line lists. Arguments are sequence numbers; none means all of them. The
+ * argument `lists` stands for the test of all line lists.
  */
 #include "plain.h"
 
@@ -8,7 +9,13 @@
 #include <stdlib.h>
 #include <string.h>
 
-enum { TABLES = PLAIN_SEQUENCES + PLAIN_LINE_LISTS, SEQUENCES = 128, NO_NUMBER = 65535 };
+enum {
+    TABLES = PLAIN_SEQUENCES + PLAIN_LINE_LISTS,
+    SEQUENCES = 128,
+    LISTS = 48,
+    LIST_ENTRY = 164,
+    NO_NUMBER = 65535
+};
 
 /* A number in decimal with no sign and no leading zero, at most 65535; NO_NUMBER, which the check
  * refuses like any number above 127, for other words. */
@@ -26,6 +33,25 @@ static unsigned long long total(const uint8_t *at)
     for (int i = 0; i < 8; i++)
         value = value << 8 | at[i];
     return value;
+}
+
+/* The end of a line about a bad line list; nothing, if it is good. */
+static void print_reason(unsigned number, unsigned expected)
+{
+    static const char *const names[] = {"", " REASON count", " REASON length", " REASON checksum"};
+    printf("%s", names[number]);
+    if (number == PLAIN_CHECKSUM)
+        printf(" %02X", expected);
+    putchar('\n');
+}
+
+static void survey_lists(const uint8_t *lists)
+{
+    for (int i = 0; i < LISTS; i++) {
+        struct plain_reason reason = plain_line_list(lists + LIST_ENTRY * i);
+        printf("LIST %d %s", i, reason.number == PLAIN_GOOD ? "GOOD" : "BAD");
+        print_reason(reason.number, reason.expected);
+    }
 }
 
 static void survey(const uint8_t *tables, const char *word)
@@ -51,7 +77,7 @@ static void survey(const uint8_t *tables, const char *word)
     count = (unsigned)report[6] << 8 | report[7];
     for (unsigned i = 0; i < count; i++)
         printf(" %d", report[24 + i]);
-    putchar('\n');
+    print_reason(report[4], report[5]);
 }
 
 int main(int argc, char **argv)
@@ -61,8 +87,12 @@ int main(int argc, char **argv)
     if (fread(tables, 1, sizeof tables, stdin) != TABLES) {
         puts("REFUSED TABLES 16");
     } else if (argc > 1) {
-        for (int i = 1; i < argc; i++)
-            survey(tables, argv[i]);
+        for (int i = 1; i < argc; i++) {
+            if (strcmp(argv[i], "lists") == 0)
+                survey_lists(tables + PLAIN_SEQUENCES);
+            else
+                survey(tables, argv[i]);
+        }
     } else {
         for (int i = 0; i < SEQUENCES; i++) {
             char word[12];

@@ -6,11 +6,12 @@
 #            rule planted in one of them, which the driver must find
 #   library  the driver with the proved library
 #   desks    the two desk programs on two scripts: equal output
-#   surveys  the two table checks at the desk: equal output
+#   surveys  the two table checks at the desk, and their tests of the line lists: equal output
 #   bench    one table of times, proved and plain side by side; its last line names the rows over their bar
 # By name alone:
 #   baseline         the same as bench, and its rows are kept in compare/baseline.txt
-#   vectors FOLDER   the proved programs on the folder's desk-N.in and tables-N.bin; says how many are equal
+#   vectors FOLDER   the proved programs on the folder's desk-N.in and tables-N.bin; says how many are equal, the reasons of faults
+#                    with code 7 left out
 #   counts           one table of instructions, proved and plain, counted by the emulator: the same on every machine that has it
 #   unproved STAGE.. library, bench and counts take the library as its sources stand, compiled without its proofs
 # All programs are for x86-64, built by the same compiler as the proved ones, and run with its C library;
@@ -48,7 +49,8 @@ assemble() { # PROGRAM FILE..
         { cat "$build/link.log"; return 1; }
 }
 
-as_keel=(-Dplain_power_on=keel_power_on -Dplain_packet=keel_packet -Dplain_step=keel_step -Dplain_check=keel_check)
+as_keel=(-Dplain_power_on=keel_power_on -Dplain_packet=keel_packet -Dplain_step=keel_step -Dplain_check=keel_check
+    -Dplain_line_list=keel_line_list)
 
 build_plain() {
     mkdir -p "$build"
@@ -234,20 +236,24 @@ stage_surveys() {
     for seed in 1 2 3 4 5 6 7 8; do
         run "$build/made" tables "$seed" >"$tables"
         same_survey "$tables"
+        same_survey "$tables" lists
     done
     same_survey "$tables" 127 0 5 5 128 65535 65536 4294967296 00 01 -1 +1 1x x 12.
+    same_survey "$tables" 3 lists 5 list listss Lists lists
     head -c 24255 "$tables" >"$build/short.bin"
     same_survey "$build/short.bin"
     cat "$tables" "$build/short.bin" >"$build/long.bin"
     same_survey "$build/long.bin" 0
     same_survey /dev/null
-    echo "surveys: equal output on 8 tables, on odd words and on tables of wrong size"
+    same_survey /dev/null lists
+    echo "surveys: equal output on 8 tables, their line lists, odd words and tables of wrong size"
 }
 
-# Runs PROGRAM on INPUT and counts it; it is equal if it writes what WANTED has.
+# Runs PROGRAM on INPUT and counts it; it is equal if it writes what WANTED has. The tables' answers are document 01's: the reason,
+# which P4 puts at the end of a fault with code 7, is cut off there and nowhere else.
 vector() { # PROGRAM INPUT WANTED
     all=$((all + 1))
-    if run "target/bin/$1" <"$2" | cmp -s - "$3"; then equal=$((equal + 1)); else echo "$2: not equal"; fi
+    if run "target/bin/$1" <"$2" | sed '/^FAULT [^ ]* 7 /s/ REASON .*//' | cmp -s - "$3"; then equal=$((equal + 1)); else echo "$2: not equal"; fi
 }
 
 stage_vectors() { # FOLDER
@@ -258,7 +264,7 @@ stage_vectors() { # FOLDER
         number=${file##*/tables-}
         vector tablecheck "$file" "$1/survey-${number%.bin}.out"
     done
-    echo "vectors: $equal of $all equal"
+    echo "vectors: $equal of $all equal, but for the reasons at the ends of the faults with code 7"
     [ "$equal" = "$all" ]
 }
 

@@ -1,8 +1,9 @@
 #!/bin/sh
-# whole-loop.sh [quick | built]: the loop of the trade on document 01's sample raster, with one desk from beginning to end. The line list
-# and the sequence are sent up, both tables are dumped, the dumps are checked by tablecheck, and what passed is selected, started and
-# stepped: as many steps as the check has counted. A line to the desk is shown after `>`; of a dump the first bytes are shown.
-# Its word is handed to run.sh.
+# whole-loop.sh [quick | built]: the loop of the trade on document 01's sample raster, with one desk from beginning to end. The line list,
+# with a slip of a digit in its checksum, and the sequence are sent up, both tables are dumped, and the dumps are checked by tablecheck.
+# The checksum is mended with the value that the check expects, and the new dumps are checked. What passed is selected, started and
+# stepped: as many steps as the check has counted. A line to the desk is shown after `>`; of a dump the first bytes are shown, of the
+# line lists the first. Its word is handed to run.sh.
 set -eu
 cd "$(dirname "$0")/.."
 room=$(mktemp -d)
@@ -41,14 +42,23 @@ dump() { # ADDRESS COUNT FILE
     printf '%s\n' "${block#DU }" | bytes >>"$3"
 }
 
-send E7074000141400016E08000032040000000200000300640020 1
-send E70700002222000201900007006400030000000002010100F0020003000A0000910064921B94C0 1
-dump 070000 004000 "$room/tables"
-dump 074000 001EC0 "$room/tables"
+# Dumps both tables, and has them checked: sequence 0, and the line lists.
+check() { # WORD OF RUN.SH
+    : >"$room/tables"
+    dump 070000 004000 "$room/tables"
+    dump 074000 001EC0 "$room/tables"
+    echo '> tablecheck 0 lists, on the two dumps put together; of the line lists the first'
+    sh run.sh "$@" tablecheck 0 lists <"$room/tables" >"$room/told"
+    sed -n '1,2p' "$room/told"
+    verdict=$(sed -n '1p' "$room/told")
+}
 
-echo '> tablecheck 0, on the two dumps put together'
-verdict=$(sh run.sh "$@" tablecheck 0 <"$room/tables")
-printf '%s\n' "$verdict"
+send E7074000141400016F08000032040000000200000300640020 1
+send E70700002222000201900007006400030000000002010100F0020003000A0000910064921B94C0 1
+check "$@"
+case $verdict in *' REASON checksum '*) ;; *) exit 1 ;; esac
+send "E707400301${verdict##* }" 1
+check "$@"
 case $verdict in 'PASS 0 ENDS '*) ;; *) exit 1 ;; esac
 steps=$(printf '%s\n' "$verdict" | cut -d ' ' -f 4)
 

@@ -17,7 +17,9 @@ use Rattle.runner.specs.declared.Event.the-variants.{Idle}
 use Rattle.runner.specs.Events.{shownAs}
 use Rattle.survey.specs.declared.Report.{Report}
 use Rattle.survey.specs.Chain.{Told}
-use Rattle.survey.specs.Report.{endingShown, reportOf}
+use Rattle.sequence.specs.declared.ReasonNumbers.{ReasonNumbers}
+use Rattle.sequence.specs.LineList.{reasonAs}
+use Rattle.survey.specs.Report.{endingShown, reasonOf, reasonShown, reportOf}
 use Rattle.unit.specs.declared.Unit.{Unit}
 use Rattle.telecommand.specs.declared.Telecommand.{Telecommand}
 use Rattle.telecommand.specs.declared.Telecommand.the-variants.{Status, Dump}
@@ -179,17 +181,20 @@ laid-out r a b c d h ha hb hc hd =
     ∙ simp (append-nil, append-assoc)
 
 -- how the check ended, steps, exposures and chain of what was found, written one after another
-pub reported : (found : Report) (t : Told) (r : List ℕ) (code number sequence place : ℕ) (steps exposures w1 w2 w3 w4 : List ℕ)
+pub reported : (found : Report) (t : Told) (r : List ℕ) (code number sequence place reason value : ℕ) (steps exposures w1 w2 w3 w4 : List ℕ)
     → found ≡ reportOf t → length r ≡ 152 → length (found .listed) ≡ 128
     → code ≡ endingShown (found .ending) .code → number ≡ endingShown (found .ending) .number
     → sequence ≡ endingShown (found .ending) .sequence → place ≡ endingShown (found .ending) .place
+    → reasonAs reason value ≡ reasonShown (reasonOf (found .ending))
     → steps ≡ eight (found .steps) → exposures ≡ eight (found .exposures)
-    → w1 ≡ written r 0 (code ∷ number ∷ sequence ∷ place ∷ 0 ∷ 0 ∷ two (found .count))
+    → w1 ≡ written r 0 (code ∷ number ∷ sequence ∷ place ∷ reason ∷ value ∷ two (found .count))
     → w2 ≡ written w1 8 steps → w3 ≡ written w2 16 exposures → w4 ≡ written w3 24 (found .listed)
     → w4 ≡ reportBytes t
 unfolding reportOf reportBytes
-reported found t r code number sequence place steps exposures w1 w2 w3 w4 e h hl ec en es ep e1 e2 f1 f2 f3 f4 =
-    let head = code ∷ number ∷ sequence ∷ place ∷ 0 ∷ 0 ∷ two (found .count) in
+reported found t r code number sequence place reason value steps exposures w1 w2 w3 w4 e h hl ec en es ep er e1 e2 f1 f2 f3 f4 =
+    let head = code ∷ number ∷ sequence ∷ place ∷ reason ∷ value ∷ two (found .count) in
+    let rn : reason ≡ reasonShown (reasonOf (found .ending)) .number = ap (λ (x : ReasonNumbers). x .number) er in
+    let rv : value ≡ reasonShown (reasonOf (found .ending)) .value = ap (λ (x : ReasonNumbers). x .value) er in
     let l1 : length steps ≡ 8 = ap length e1 in
     let l2 : length exposures ≡ 8 = ap length e2 in
-    f4 ∙ simp (f3, f2, f1) (laid-out r head steps exposures (found .listed) h refl l1 l2 hl ∙ simp (ec, en, es, ep, e1, e2, e))
+    f4 ∙ simp (f3, f2, f1) (laid-out r head steps exposures (found .listed) h refl l1 l2 hl ∙ simp (ec, en, es, ep, rn, rv, e1, e2, e))

@@ -1,5 +1,6 @@
 -- keel_check's report of 152 bytes: "0 code (0 passed; a fault's code; 16; 7); 1: 0 nothing listed, 1 ends, 2 returns, 3 fault; 2 fault's
--- sequence; 3 its place; 6-7 how many are listed; 8-15 steps; 16-23 exposures, high byte first; 24-151 the chain, zeros after it; all else 0"
+-- sequence; 3 its place; 6-7 how many are listed; 8-15 steps; 16-23 exposures, high byte first; 24-151 the chain, zeros after it; all else 0".
+-- P4 puts the number of the fault's reason at 4 and the checksum expected at 5.
 use Prim.Native.Nat.{ℕ}
 use mathlib.Core.Bool.{Bool, cond}
 use mathlib.Core.List.{List, _∷_, _++_}
@@ -8,11 +9,12 @@ use lib.ListN.{length}
 use Rattle.octets.specs.Bytes.{two, eight}
 use Rattle.memory.specs.Memory.{flight}
 use Rattle.survey.specs.Chain.{Told, checkOf}
-use Rattle.survey.specs.Report.{endingShown, padded}
+use Rattle.survey.specs.Report.{endingShown, reasonOf, reasonShown, padded}
 
 unfoldable pub reportBytes : Told → List ℕ
 reportBytes t =
-    (endingShown (t .ending) .code ∷ endingShown (t .ending) .number ∷ endingShown (t .ending) .sequence ∷ endingShown (t .ending) .place ∷ 0 ∷ 0 ∷ two (length (t .names)))
+    (endingShown (t .ending) .code ∷ endingShown (t .ending) .number ∷ endingShown (t .ending) .sequence ∷ endingShown (t .ending) .place
+    ∷ reasonShown (reasonOf (t .ending)) .number ∷ reasonShown (reasonOf (t .ending)) .value ∷ two (length (t .names)))
     ++ (eight (t .steps) ++ (eight (t .exposures) ++ padded (t .names)))
 
 abbrev pub reportSized : List ℕ → Bool

@@ -5,13 +5,14 @@ ghost use lib.ListN.{length};
 ghost use Rattle.octets.specs.Bytes.{eight};
 ghost use Rattle.runner.specs.Events.{shownAs};
 ghost use Rattle.survey.specs.Chain.{Told};
-ghost use Rattle.survey.specs.Report.{endingShown, reportOf};
+ghost use Rattle.survey.specs.Report.{endingShown, reasonOf, reportOf};
 ghost use Rattle.keel.specs.Calls.{heldCode, powerCode, poweredOn, packetAnswer, stateAfter, keptSeqs, keptLists, keptOut, packed, deniedAs, stepAnswer, stateStepped};
 ghost use Rattle.keel.specs.Report.{reportBytes, checkAnswer, reportAfter};
 use memory::Format;
 use runner::Event;
 use runner::Runner;
 use survey::Ending;
+use survey::Reason;
 use survey::Report;
 use unit::Outcome;
 
@@ -181,12 +182,24 @@ fn verdict_of(ending: Ending) -> Verdict
             sequence: 0,
             place: 0,
         },
-        Ending::Faults(sequence, fault) => Verdict {
+        Ending::Faults(sequence, fault, _) => Verdict {
             code: fault.code,
             number: 3,
             sequence,
             place: fault.place,
         },
+    }
+}
+
+// An ending's reason, none where it is no fault.
+fn reason_of(ending: Ending) -> Reason
+    ensures { λ r. ⌜ r ≡ reasonOf ending ⌝ }
+{
+    match ending {
+        Ending::Unlisted(_) => Reason::None,
+        Ending::Finishes => Reason::None,
+        Ending::Returns => Reason::None,
+        Ending::Faults(_, _, reason) => reason,
     }
 }
 
@@ -214,13 +227,14 @@ fn tell(found: Report, report: &mut [u8]) -> u8
 {
     let ending = found.ending;
     let verdict = verdict_of(ending);
+    let reason = reason_of(ending).shown();
     let head = [
         verdict.code,
         verdict.number,
         verdict.sequence,
         verdict.place,
-        0,
-        0,
+        reason.number,
+        reason.value,
         (found.count / 256 % 256) as u8,
         (found.count % 256) as u8,
     ];

@@ -348,7 +348,7 @@ pub fn number(s: &[u8], from: usize) -> Numeral
 }
 
 // Whether a line starts with a word.
-fn begins(line: &[u8], word: &[u8]) -> bool
+pub fn begins(line: &[u8], word: &[u8]) -> bool
     ensures { λ r. ⌜ r ≡ begins (now (word .entry)) (now (line .entry)) ⌝ }
 {
     if line.len() < word.len() {

@@ -63,16 +63,16 @@ module _ {F : Format} (fair : Fair F) (room : 4 < F .size) where
   passed n s g y acts x =
       let seen = went n s g acts x .shows in
       subst₂ (λ (t : Told) (os : List Outcome). RunsAsTold F (s .seqs) t os) (sym (check-known n s (g .reached) (g .known))) (sym seen)
-      (as-told (envOf F (s .lists)) fair (s .seqs) n (s .unit .runner .mirror) (s .unit .runner) (g .known) (g .door) (subst IsPassed (check-ending n s (g .reached) (g .known)) (passed-so (ours .checks F (s .seqs) (s .lists) n .ending) y)) (stepsIn acts)
+      (as-told F (s .lists) fair (s .seqs) n (s .unit .runner .mirror) (s .unit .runner) (g .known) (g .door) (subst IsPassed (check-ending n s (g .reached) (g .known)) (passed-so (ours .checks F (s .seqs) (s .lists) n .ending) y)) (stepsIn acts)
       (subst (λ (os : List Outcome). NonePast 2400 (exposedPositions (eventsOf os))) seen (in-reach acts s (steady fair room (g .reached)))))
 
   pub faulted : Faulted F ours
   faulted n s g code q p y =
-      let (k, f) = aborts (envOf F (s .lists)) fair (s .seqs) n (s .unit .runner .mirror) (s .unit .runner) (g .known) (g .door) code q p (sym (check-ending n s (g .reached) (g .known)) ∙ fault-so y) in
+      let (k, f) = aborts F (s .lists) fair (s .seqs) n (s .unit .runner .mirror) (s .unit .runner) (g .known) (g .door) code q p _ (sym (check-ending n s (g .reached) (g .known)) ∙ fault-so y) in
       (k, λ acts x. subst (FirstThen k Works (AbortsAt code q p)) (sym (went n s g acts x .shows)) (f (stepsIn acts)))
 
-  pub lists-so : (n : ℕ) (s : World F) → Reached ours s → n ≤ F .last → Lists F (s .seqs) n (ours .checks F (s .seqs) (s .lists) n)
-  lists-so n s r h = subst (Lists F (s .seqs) n) (sym (check-known n s r h)) (chain-lists (envOf F (s .lists)) (s .seqs) n h)
+  pub lists-so : (n : ℕ) (s : World F) → Reached ours s → n ≤ F .last → Lists F (s .seqs) (s .lists) n (ours .checks F (s .seqs) (s .lists) n)
+  lists-so n s r h = subst (Lists F (s .seqs) (s .lists) n) (sym (check-known n s r h)) (chain-lists F (s .lists) (s .seqs) n h)
 
   pub demand3 : Demand3 F ours
   demand3 w r m n h out out′ space space′ time time′ =
@@ -105,7 +105,7 @@ module _ {F : Format} (fair : Fair F) (room : 4 < F .size) where
 
     pub next : (m : ℕ) × Next m
     next =
-        let (u, known, listed, called, door) = returns-at (envOf F (s .lists)) fair (s .seqs) n (r .mirror) r (g .known) (g .door) back in
+        let (u, known, listed, called, door) = returns-at F (s .lists) fair (s .seqs) n (r .mirror) r (g .known) (g .door) back in
         let names = sym (check-names n s (g .reached) (g .known)) in
         (u, (known, subst (λ (ns : List ℕ). among u ns ≡ true) names listed, subst (λ (ns : List ℕ). Calling F (s .seqs) (lastOf 0 ns) u) names called, door))
 
@@ -118,8 +118,8 @@ module _ {F : Format} (fair : Fair F) (room : 4 < F .size) where
         subst IsPassed (sym (check-ending m s (g .reached) known))
         (listed-passes E (s .seqs) n (g .known) (subst IsPassed (sym back) tt) m (subst (λ (ns : List ℕ). among m ns ≡ true) (check-names n s (g .reached) (g .known)) listed)) in
         let (once, part, returns) =
-        comes-again F (s .seqs) n m (t .names) (ours .checks F (s .seqs) (s .lists) m .names) (ours .checks F (s .seqs) (s .lists) m .ending)
-        (subst (Chain F (s .seqs) (t .names) n (t .names)) (back-so y) (mine .chain)) (mine .differ) called listed (its .chain) (its .differ) well in
+        comes-again F (s .seqs) (s .lists) n m (t .names) (ours .checks F (s .seqs) (s .lists) m .names) (ours .checks F (s .seqs) (s .lists) m .ending)
+        (subst (Chain F (s .seqs) (s .lists) (t .names) n (t .names)) (back-so y) (mine .chain)) (mine .differ) called listed (its .chain) (its .differ) well in
         record { called = called; once = once; part = part; returns = ap endingShown returns }
 
     pub enters-next : (m : ℕ) → Next m → (acts : List Action) → NeverCalledBack ours acts s → length (outcomes ours acts s) ≡ t .steps

@@ -17,6 +17,7 @@ use Rattle.sequence.specs.Env.{Env, envOf}
 use Rattle.survey.specs.declared.Closing.the-variants.{Terminates, CallsOn}
 use Rattle.survey.specs.declared.Ending.{Ending}
 use Rattle.survey.specs.declared.Ending.the-variants.{Unlisted, Finishes, Returns, Faults}
+use Rattle.survey.specs.declared.Reason.{Reason}
 use Rattle.survey.specs.Walk.{Finding, passes, faults, findingOf}
 use Rattle.survey.specs.Chain.{Told, told, total, onward, chainOf, checkRows, checkOf}
 use Rattle.survey.specs.Report.{endingAs}
@@ -55,13 +56,13 @@ module _ (F : Format) (lists seqs : List ℕ) where
   -- each listed sequence passes, or it is told to be faulty; one that is told to be so breaks the rules; the totals of what passes
   record Verdict (t : Told) : Type 0 where
     each : (m : ℕ) → among m (t .names) ≡ true → Passes E (entryOf F seqs m) ⊎ FaultIn m (t .ending)
-    broken : (code m place : ℕ) → t .ending ≡ Faults m (fault code place) → Breaks E (entryOf F seqs m) code place
+    broken : (code m place : ℕ) (reason : Reason) → t .ending ≡ Faults m (fault code place) reason → Breaks E (entryOf F seqs m) code place
     totals : IsPassed (t .ending) → (t .steps ≡ sumOver F stepsOfSequence seqs (t .names)) × (t .exposures ≡ sumOver F exposuresOfSequence seqs (t .names))
 
   none-listed : Verdict (told [] Returns 0 0)
   unfolding among
   none-listed =
-      record { each = λ m a. absurd (false≢true a); broken = λ code m place e. (let z : _≡_ {A = ℕ} 0 1 = cc in absurd (omega arith)); totals = λ y. (refl, refl) }
+      record { each = λ m a. absurd (false≢true a); broken = λ code m place r e. (let z : _≡_ {A = ℕ} 0 1 = cc in absurd (omega arith)); totals = λ y. (refl, refl) }
 
   -- sequence n, which passes, in front of the rest
   front : (n k x : ℕ) (t : Told) → Passes E (entryOf F seqs n) → k ≡ stepsOfSequence (entryOf F seqs n) → x ≡ exposuresOfSequence (entryOf F seqs n) → Verdict t
@@ -78,17 +79,17 @@ module _ (F : Format) (lists seqs : List ℕ) where
       sums (Unlisted code) y s = absurd y
       sums Finishes y (s, z) = (ap₂ (λ (a b : ℕ). a + b) ek s, ap₂ (λ (a b : ℕ). a + b) ex z)
       sums Returns y (s, z) = (ap₂ (λ (a b : ℕ). a + b) ek s, ap₂ (λ (a b : ℕ). a + b) ex z)
-      sums (Faults m f) y s = absurd y
+      sums (Faults m f reason) y s = absurd y
 
   onward-verdict : (n : ℕ) (go : ℕ → Told) → ((m : ℕ) → Verdict (go m)) → (v : Finding) → found n ≡ v → Verdict (onward go n v)
   unfolding onward among
-  onward-verdict n go ih (faults f) says =
+  onward-verdict n go ih (faults f reason) says =
       record {
         each = λ m a. among-case m n [] a (λ w. inr (f .code, f .place, ap (λ (z : ℕ). endingAs 3 (f .code) z (f .place)) w)) (λ w. absurd (false≢true w));
         broken =
-            λ c m p e.
+            λ c m p r e.
             let (b, d) : (f ≡ fault c p) × (n ≡ m) = (cc, cc) in
-            subst₂ (λ (w : Fault) (z : ℕ). Breaks E (entryOf F seqs z) (w .code) (w .place)) b d (one-checked E (entryOf F seqs n) (faults f) says);
+            subst₂ (λ (w : Fault) (z : ℕ). Breaks E (entryOf F seqs z) (w .code) (w .place)) b d (one-checked E (entryOf F seqs n) (faults f reason) says);
         totals = λ y. absurd y;
       }
   onward-verdict n go ih (passes k x items e Terminates) says =
@@ -96,7 +97,7 @@ module _ (F : Format) (lists seqs : List ℕ) where
       let p = one-checked E (entryOf F seqs n) (passes k x items e Terminates) says in
       record {
         each = λ m a. among-case m n [] a (λ w. subst (λ (z : ℕ). Passes E (entryOf F seqs z) ⊎ FaultIn z Finishes) w (inl p)) (λ w. absurd (false≢true w));
-        broken = λ c m place w. (let z : _≡_ {A = ℕ} 0 1 = cc in absurd (omega arith));
+        broken = λ c m place r w. (let z : _≡_ {A = ℕ} 0 1 = cc in absurd (omega arith));
         totals = λ y. (let s = ek ∙ counted-steps b in let z = ex ∙ counted-exposures b in (omega arith, omega arith));
       }
   onward-verdict n go ih (passes k x items e (CallsOn m)) says =
@@ -109,11 +110,11 @@ module _ (F : Format) (lists seqs : List ℕ) where
       (follow-all found (λ before t. Verdict t) (λ before. none-listed) (λ before m go e ih. onward-verdict m go ih (found m) refl) (suc (F .last)) [] n)
 
 pub rules-applied : RulesApplied ours
-rules-applied F seqs lists n g = let v = verdict F lists seqs n g in (v .each, λ code m place e. v .broken code m place (fault-so e))
+rules-applied F seqs lists n g = let v = verdict F lists seqs n g in (v .each, λ code m place e. v .broken code m place _ (fault-so e))
 
 pub calls-followed : CallsFollowed ours
 calls-followed F seqs lists n g =
-    subst (Lists F seqs n) (sym (check-is F seqs lists n (right-sizes seqs lists (g .sequences) (g .lineLists)) (g .number))) (chain-lists (envOf F lists) seqs n (g .number))
+    subst (Lists F seqs lists n) (sym (check-is F seqs lists n (right-sizes seqs lists (g .sequences) (g .lineLists)) (g .number))) (chain-lists F lists seqs n (g .number))
 
 pub totals-told : TotalsTold ours
 totals-told F seqs lists n g y = verdict F lists seqs n g .totals (passed-so (ours .checks F seqs lists n .ending) y)

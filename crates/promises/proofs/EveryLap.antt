@@ -38,7 +38,7 @@ module _ {F : Format} (fair : Fair F) (room : 4 < F .size) where
       where
         go : (k : ℕ) → told n s .steps ≡ k → 0 < k
         go zero e =
-            let (rest, names) = chain-first F (s .seqs) (lists-so fair room n s (g .reached) (g .known) .chain) in
+            let (rest, names) = chain-first F (s .seqs) (s .lists) (lists-so fair room n s (g .reached) (g .known) .chain) in
             let none : [] ≡ chainPlan F (s .seqs) (n ∷ rest) = passed fair room n s g passes [] tt .planned (sym e) ∙ ap (chainPlan F (s .seqs)) names in
             let z : _≡_ {A = ℕ} 0 1 = cc in absurd (omega arith)
         go (suc k) e = omega arith
@@ -148,7 +148,7 @@ module _ {F : Format} (fair : Fair F) (room : 4 < F .size) where
     to-itself : Calling F (s .seqs) (lastOf 0 (part .names)) m
     to-itself =
         let r = again fair room n s g y m k in
-        let (rest, names) = chain-first F (s .seqs) (lists-so fair room m s (g .reached) (k .0) .chain) in
+        let (rest, names) = chain-first F (s .seqs) (s .lists) (lists-so fair room m s (g .reached) (k .0) .chain) in
         let same : lastOf 0 (told n s .names) ≡ lastOf 0 (part .names) =
         ap (lastOf 0) (r .part ∙ ap (λ (ns : List ℕ). r .once ++ ns) names) ∙ last-part 0 0 (r .once) rest m ∙ ap (lastOf 0) (sym names) in
         subst (λ (z : ℕ). Calling F (s .seqs) z m) same (r .called)

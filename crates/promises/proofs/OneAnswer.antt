@@ -42,12 +42,14 @@ use Rattle.promises.specs.OneAnswer.{
   OneSequenceRasterAt,
   OneSequenceFlagsGood,
   OneSequenceListCard,
+  OneSequenceListCardShown,
   OneSequencePast,
   OneSequenceTargetGood,
   OneRunnerJudge,
   OneRunnerRunnerStep,
   OneSurveyCheck,
   OneSurveyCheckOne,
+  OneSurveyReasonShown,
   OneTelecommandTelecommandOf,
   OneTelecommandTelecommandShapeFault,
   OneTelecommandPairAllowed,
@@ -83,6 +85,7 @@ use Rattle.promises.specs.OneAnswer.{
   OneLinePutBad,
   OneLineIsHex,
   OneLineNumber,
+  OneLineBegins,
   OneLineReadLine,
   OneStateUnitOf,
   OneStateSaveAnswer,
@@ -223,6 +226,9 @@ one-result-sequence-flags-good κs a r r′ e e′ p q = p ∙ sym q
 pub one-result-sequence-list-card : OneSequenceListCard
 one-result-sequence-list-card κs a r r′ e e′ p q = p ∙ sym q
 
+pub one-result-sequence-ListCard-shown : OneSequenceListCardShown
+one-result-sequence-ListCard-shown κs a r r′ e e′ p q = p ∙ sym q
+
 pub one-result-sequence-past : OneSequencePast
 one-result-sequence-past κs a r r′ e e′ p q = p ∙ sym q
 
@@ -242,6 +248,9 @@ one-result-survey-check κs a r r′ e e′ p q = p ∙ sym q
 
 pub one-result-survey-check-one : OneSurveyCheckOne
 one-result-survey-check-one κs a r r′ e e′ p q = p ∙ sym q
+
+pub one-result-survey-Reason-shown : OneSurveyReasonShown
+one-result-survey-Reason-shown κs a r r′ e e′ p q = p ∙ sym q
 
 -- ── telecommand
 pub one-result-telecommand-telecommand-of : OneTelecommandTelecommandOf
@@ -345,6 +354,9 @@ one-result-line-is-hex κs a r r′ e e′ p q = p ∙ sym q
 
 pub one-result-line-number : OneLineNumber
 one-result-line-number κs a r r′ e e′ p q = p ∙ sym q
+
+pub one-result-line-begins : OneLineBegins
+one-result-line-begins κs a r r′ e e′ p q = p ∙ sym q
 
 pub one-result-line-read-line : OneLineReadLine
 one-result-line-read-line κs a r r′ e e′ p q = λ i. ((p .0 ∙ sym (q .0)) i, (p .1 ∙ sym (q .1)) i)

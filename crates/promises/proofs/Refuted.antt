@@ -14,7 +14,7 @@ use Rattle.memory.specs.Memory.{flight, tablesWrong, rangeOf, rangeAt}
 use Rattle.sequence.specs.Text.{fault, limit, lengthGood, xorGood, headerRows, headerOf, sizeOf, decoded, noneThere, commandAt, sizeAt}
 use Rattle.sequence.specs.Starts.{starts, startsOf, among, exposesBetween, firstExposure, targetGood}
 use Rattle.sequence.specs.Raster.{rasterAt, flagsGood, somePast}
-use Rattle.sequence.specs.LineList.{listCard}
+use Rattle.sequence.specs.LineList.{checksumOf, listCard}
 use Rattle.sequence.specs.Env.{envOf}
 use Rattle.sequence.proofs.SampleTables.{seqs, lists, ends, calls, lineList, fields, raster}
 use Rattle.runner.specs.declared.Runner.{Runner}
@@ -24,8 +24,10 @@ use Rattle.runner.specs.Events.{Shown, shows}
 use Rattle.runner.specs.Judge.{pathRows, rasterRows, runRows, exposeRows, loopRows, closeRows, judged, judge}
 use Rattle.runner.specs.Step.{aborted, entered, begun, advances, exposed, looped, called, ended, act, stepIn, stepOf}
 use Rattle.survey.specs.declared.Ending.the-variants.{Finishes, Faults}
+use Rattle.survey.specs.declared.Reason.the-variants.{None}
 use Rattle.survey.specs.Walk.{walked, walk, checkOne}
 use Rattle.survey.specs.Chain.{Told, told, onward, follow, chainOf, checkRows, checkOf}
+use Rattle.survey.specs.Report.{reasonOf, reasonShown}
 use Rattle.unit.specs.declared.Unit.{Unit as ControlUnit}
 use Rattle.unit.specs.declared.Outcome.{Outcome}
 use Rattle.unit.specs.declared.Outcome.the-variants.{Denied, Saw}
@@ -40,7 +42,7 @@ use Rattle.promises.specs.Runs.{isA, ShownAs, Showing, idle, enters}
 use Rattle.promises.specs.Demand2.{Lent, InRange, InSequences, StepTakes}
 use Rattle.promises.specs.EachStep.{EnterStep}
 use Rattle.promises.specs.Demand3.{World, world, step, packet, after, outcomes, Reached, powered, acted, modeOf, selecting, starting, callingBack, exposedPositions, Works, FirstThen, GoesOn, EndsOrReturns, KeepsPassed, Demand3}
-use Rattle.promises.specs.Refuted.{RefusingFails, WritingNothingFails, IdlingFails, UnitIdlingFails, FinishingAtFirstFails, UnitFinishingFails, FinishingAtCallFails, withCheck, withSteps, PassingAllFails, FaultingAllFails, InventedStepsFail, InventedExposuresFail, IdleUnitFails, refusesAll, writesNothing, alwaysIdle, finishesAtFirst, atCall, finishesAtCall, passesAll, faultsAll, inventsSteps, inventsExposures, mirrorEachExposure, repeatAtLast, faultyRasterPassed, uplinkWhileRunning, Refuted, MisreadRefuted}
+use Rattle.promises.specs.Refuted.{RefusingFails, WritingNothingFails, IdlingFails, UnitIdlingFails, FinishingAtFirstFails, UnitFinishingFails, FinishingAtCallFails, withCheck, withSteps, PassingAllFails, FaultingAllFails, InventedStepsFail, InventedExposuresFail, IdleUnitFails, refusesAll, writesNothing, alwaysIdle, finishesAtFirst, atCall, finishesAtCall, passesAll, faultsAll, inventsSteps, inventsExposures, mirrorEachExposure, repeatAtLast, faultyRasterPassed, dropsReasons, uplinkWhileRunning, Refuted, MisreadRefuted}
 use Rattle.promises.proofs.Run.Events.{fault-so, passed-so}
 use Rattle.promises.proofs.Chain.Chains.{fair-flight}
 use Rattle.promises.proofs.Packets.Actions.{steps, stepped-on}
@@ -195,7 +197,7 @@ record Computed (sequence : List ℕ) (t : Told) : Type 0 where
   mode : modeOf (manual ours sequence []) ≡ 2
   tells-so : tells ours sequence [] ≡ t
 
-computed : Computed [] (told (0 ∷ []) (Faults 0 (fault 2 0)) 0 0) × Computed terminates (told (0 ∷ []) Finishes 2 0)
+computed : Computed [] (told (0 ∷ []) (Faults 0 (fault 2 0) None) 0 0) × Computed terminates (told (0 ∷ []) Finishes 2 0)
 unfolding xorOn tablesWrong limit lengthGood xorGood headerRows headerOf sizeOf decoded noneThere commandAt sizeAt closeRows judged judge walked walk checkOne onward follow chainOf among checkRows checkOf powerOn runsWrong rangeTests outOfRange moded selected telecommandOf ownRows lentWrong packetRows codeOf effect obeyedUnit unitAfter answerOf seqsAfter listsAfter
 computed = (record { mode = refl; tells-so = refl }, record { mode = refl; tells-so = refl })
 
@@ -204,19 +206,19 @@ module _ (f : Format → List ℕ → List ℕ → ℕ → Told) (d : Demand3 fl
   abbrev its : List ℕ → Told
   its sequence = f flight (manual ours sequence [] .seqs) (manual ours sequence [] .lists) 0
 
-  at-zeros : its [] ≡ told (0 ∷ []) (Faults 0 (fault 2 0)) 0 0
+  at-zeros : its [] ≡ told (0 ∷ []) (Faults 0 (fault 2 0) None) 0 0
   at-zeros = check-decided fair-flight (omega arith) f d (manual ours [] []) (in-manual ours [] [] refl refl) (computed .0 .mode) 0 (omega arith) ∙ computed .0 .tells-so
 
   at-ends : its terminates ≡ tells ours terminates []
   at-ends = check-decided fair-flight (omega arith) f d (manual ours terminates []) (in-manual ours terminates [] refl refl) (computed .1 .mode) 0 (omega arith)
 
 pub passing-all-fails : PassingAllFails
-passing-all-fails f x d = passed-so (Faults 0 (fault 2 0)) (subst (λ (t : Told). EndsOrReturns (t .ending)) (at-zeros f d) (x (manual ours [] [] .seqs) (manual ours [] [] .lists) 0))
+passing-all-fails f x d = passed-so (Faults 0 (fault 2 0) None) (subst (λ (t : Told). EndsOrReturns (t .ending)) (at-zeros f d) (x (manual ours [] [] .seqs) (manual ours [] [] .lists) 0))
 
 pub faulting-all-fails : FaultingAllFails
 faulting-all-fails f x d =
     let (code, n, place, e) = x (manual ours terminates [] .seqs) (manual ours terminates [] .lists) 0 in
-    let w : Finishes ≡ Faults n (fault code place) = ap (λ (t : Told). t .ending) (sym (at-ends f d ∙ computed .1 .tells-so)) ∙ fault-so e in
+    let w : Finishes ≡ Faults n (fault code place) _ = ap (λ (t : Told). t .ending) (sym (at-ends f d ∙ computed .1 .tells-so)) ∙ fault-so e in
     let z : _≡_ {A = ℕ} 0 1 = cc in omega arith
 
 -- of this chain ours tells that it ends
@@ -259,7 +261,7 @@ refuted =
 
 -- ── misreadings: the exposure that is misplaced, and where the plan has it
 pub misread-refuted : MisreadRefuted
-unfolding xorOn tablesWrong rangeOf rangeAt limit lengthGood xorGood headerRows headerOf sizeOf decoded noneThere commandAt sizeAt starts startsOf among exposesBetween firstExposure targetGood rasterAt flagsGood somePast listCard pathRows rasterRows runRows exposeRows loopRows closeRows judged judge aborted entered begun advances exposed looped ended act stepIn stepOf walked walk checkOne onward follow chainOf checkRows checkOf powerOn runsWrong rangeTests outOfRange moded selected telecommandOf ownRows lentWrong packetRows codeOf effect obeyedUnit refusedUnit unitAfter answerOf seqsAfter listsAfter stepRows withStep unitStep
+unfolding xorOn tablesWrong rangeOf rangeAt limit lengthGood xorGood headerRows headerOf sizeOf decoded noneThere commandAt sizeAt starts startsOf among exposesBetween firstExposure targetGood rasterAt flagsGood somePast checksumOf listCard pathRows rasterRows runRows exposeRows loopRows closeRows judged judge aborted entered begun advances exposed looped ended act stepIn stepOf walked walk checkOne onward follow chainOf checkRows checkOf powerOn runsWrong rangeTests outOfRange moded selected telecommandOf ownRows lentWrong packetRows codeOf effect obeyedUnit refusedUnit unitAfter answerOf seqsAfter listsAfter stepRows withStep unitStep
 misread-refuted =
     record {
       mirror-each-exposure =
@@ -277,6 +279,10 @@ misread-refuted =
           let L = faultyRasterPassed in
           let r = kept L d sets [] refl refl refl (inl refl) (steps 2) (stepped-on L 2 (auto L sets [])) in
           false≢true (r .never .1 .0);
+      reason-dropped =
+          λ d.
+          let same = check-decided fair-flight (omega arith) (dropsReasons .checks) d (manual ours sets []) (in-manual ours sets [] refl refl) refl 0 (omega arith) in
+          let z : _≡_ {A = ℕ} 0 1 = ap (λ (t : Told). reasonShown (reasonOf (t .ending)) .number) same in omega arith;
       uplink-while-running =
           λ d.
           let L = uplinkWhileRunning in

@@ -2,17 +2,18 @@
 -- numbers, and the right numbers. One theorem: every row is right. Assumes nothing.
 use Prim.Native.Nat.{ℕ}
 use mathlib.Core.Path.{_≡_, refl}
-use mathlib.Core.Bool.{true, cond}
+use mathlib.Core.Bool.{true}
 use mathlib.Core.List.{List, [], _∷_, _++_}
-use lib.ListN.{replicate}
+use lib.ListN.{set, replicate}
 use Rattle.octets.specs.Bytes.{xorOn}
 use Rattle.octets.proofs.Samples.{Sample, sample, allRight}
 use Rattle.memory.specs.Memory.{flight, tablesWrong, rangeOf, rangeAt}
 use Rattle.sequence.specs.declared.RasterWords.{RasterWords}
+use Rattle.sequence.specs.declared.ReasonNumbers.{ReasonNumbers}
 use Rattle.sequence.specs.Text.{limit, lengthGood, xorGood, headerRows, headerOf, sizeOf, decoded, noneThere, commandAt, sizeAt}
 use Rattle.sequence.specs.Starts.{starts, startsOf, among, exposesBetween, firstExposure, targetGood}
 use Rattle.sequence.specs.Raster.{rasterAt, flagsGood, somePast}
-use Rattle.sequence.specs.LineList.{listCard, isBad}
+use Rattle.sequence.specs.LineList.{checksumOf, listCard, cardShown}
 use Rattle.sequence.specs.Env.{cardsOf, envOf}
 use Rattle.sequence.proofs.SampleTables.{seqs, lists, ends, calls, lineList, fields, raster, rasterAtPosition, theRaster}
 use Rattle.runner.specs.declared.Runner.{Runner}
@@ -20,6 +21,7 @@ use Rattle.runner.specs.Judge.{pathRows, rasterRows, runRows, exposeRows, loopR
 use Rattle.runner.specs.Step.{aborted, entered, begun, advances, exposed, looped, delayed, called, ended, act, stepIn, stepOf}
 use Rattle.survey.specs.Walk.{walked, walk, checkOne}
 use Rattle.survey.specs.Chain.{onward, follow, chainOf, checkRows, checkOf}
+use Rattle.survey.specs.Report.{reasonOf, reasonShown}
 use Rattle.survey.proofs.Samples.{toldNumbers}
 use Rattle.status.specs.declared.Log.{Log}
 use Rattle.unit.specs.declared.Answer.{Answer}
@@ -47,9 +49,16 @@ started =
 abbrev seenIn : ℕ → List ℕ → List ℕ → List ℕ
 seenIn steps sequence list = positionsSeen (sightsOf (envOf flight (lists list)) (seqs sequence) steps started)
 
--- whether line list 0 is good: 1 or 0
-abbrev good : List ℕ → List ℕ
-good list = cond (isBad (cardsOf (lists list) 0)) 0 1 ∷ []
+-- what is wrong with a line list: 0 nothing, 1 window count, 2 length, 3 checksum; and the checksum expected. Of line list 0; and as the reason of
+-- the fault that the check of sequence 0 tells, in front of what it tells
+abbrev reasonNumbers : ReasonNumbers → List ℕ
+reasonNumbers r = r .number ∷ r .value ∷ []
+
+abbrev card : List ℕ → List ℕ
+card list = reasonNumbers (cardShown (cardsOf (lists list) 0))
+
+abbrev checkedWhy : List ℕ → List ℕ → List ℕ
+checkedWhy sequence list = let t = checkOf flight (seqs sequence) (lists list) 0 in reasonNumbers (reasonShown (reasonOf (t .ending))) ++ toldNumbers t
 
 -- a packet to the unit at power-on: its code, the length of its answer, and the log
 abbrev logNumbers : Log → List ℕ
@@ -66,6 +75,10 @@ abbrev repliedTo : List ℕ → List ℕ
 repliedTo packet = replyOf flight powerOn 0 (seqs []) (lists []) (seqs []) packet
 
 -- ── the rows
+-- document 01's line list with another checksum
+abbrev badSum : List ℕ
+badSum = set (lineList 1) 3 0x6F
+
 -- every field of a raster, word by word
 abbrev wordNumbers : RasterWords → List ℕ
 wordNumbers w =
@@ -77,15 +90,21 @@ samples =
     -- "`06 00 01 01 94 92` passes: 2 steps, 0 exposures. Last byte 93: code 2."
     sample (checked (ends 0x92) []) (1 ∷ 0 ∷ 0 ∷ 0 ∷ 2 ∷ 0 ∷ 0 ∷ [])
     ∷ sample (checked (ends 0x93) []) (3 ∷ 2 ∷ 0 ∷ 0 ∷ 0 ∷ 0 ∷ 0 ∷ [])
-    -- "Line list 0: .. good. Byte 2 zero: bad." 25 windows fill the entry, 26 do not fit
-    ∷ sample (good (lineList 1)) (1 ∷ [])
-    ∷ sample (good (lineList 0)) (0 ∷ [])
-    ∷ sample (good (0xA4 ∷ 0x00 ∷ 25 ∷ 0xBD ∷ [])) (1 ∷ [])
-    ∷ sample (good (0xAA ∷ 0x00 ∷ 26 ∷ 0xB0 ∷ [])) (0 ∷ [])
+    -- "Line list 0: .. good. Byte 2 zero: bad." Byte 2 two: the length; byte 3 6F: the checksum. 25 windows fill the entry, 26 do not fit, whatever
+    -- the length and the checksum are
+    ∷ sample (card (lineList 1)) (0 ∷ 0 ∷ [])
+    ∷ sample (card (lineList 0)) (1 ∷ 0 ∷ [])
+    ∷ sample (card (lineList 2)) (2 ∷ 0 ∷ [])
+    ∷ sample (card badSum) (3 ∷ 0x6E ∷ [])
+    ∷ sample (card (0xA4 ∷ 0x00 ∷ 25 ∷ 0xBD ∷ [])) (0 ∷ 0 ∷ [])
+    ∷ sample (card (0xAA ∷ 0x00 ∷ 26 ∷ 0xB0 ∷ [])) (1 ∷ 0 ∷ [])
+    ∷ sample (card (0xA4 ∷ 0x00 ∷ 26 ∷ 0x00 ∷ [])) (1 ∷ 0 ∷ [])
     -- "With it, [the raster sequence]: 6 exposures at 100, 110, 120, 100, 110, 120; 16 steps."
     ∷ sample (checked theRaster (lineList 1)) (1 ∷ 0 ∷ 0 ∷ 0 ∷ 16 ∷ 6 ∷ 0 ∷ [])
     ∷ sample (planned theRaster) (100 ∷ 110 ∷ 120 ∷ 100 ∷ 110 ∷ 120 ∷ [])
     ∷ sample (seenIn 16 theRaster (lineList 1)) (100 ∷ 110 ∷ 120 ∷ 100 ∷ 110 ∷ 120 ∷ [])
+    -- with byte 3 of the line list 6F: 7 at its run raster, and the reason
+    ∷ sample (checkedWhy theRaster badSum) (3 ∷ 0x6E ∷ 3 ∷ 7 ∷ 0 ∷ 4 ∷ 0 ∷ 0 ∷ 0 ∷ [])
     -- "Initial 2380, 3 loops, step 10 fits; 2381 gives 14."
     ∷ sample (checked (rasterAtPosition 0x09 0x4C 0xE1) (lineList 1)) (1 ∷ 0 ∷ 0 ∷ 0 ∷ 16 ∷ 6 ∷ 0 ∷ [])
     ∷ sample (checked (rasterAtPosition 0x09 0x4D 0xE0) (lineList 1)) (3 ∷ 14 ∷ 0 ∷ 4 ∷ 0 ∷ 0 ∷ 0 ∷ [])
@@ -122,5 +141,5 @@ samples =
     ∷ []
 
 pub samples-right : allRight samples ≡ true
-unfolding xorOn tablesWrong rangeOf rangeAt limit lengthGood xorGood headerRows headerOf sizeOf decoded noneThere commandAt sizeAt starts startsOf among exposesBetween firstExposure targetGood rasterAt flagsGood somePast listCard pathRows rasterRows runRows exposeRows loopRows closeRows judged judge aborted entered begun advances exposed looped delayed called ended act stepIn stepOf walked walk checkOne onward follow chainOf checkRows checkOf powerOn runsWrong rangeTests outOfRange telecommandOf ownRows lentWrong packetRows codeOf statusOf effect obeyedUnit reply refusedUnit unitAfter replyOf answerOf sightsOf
+unfolding xorOn tablesWrong rangeOf rangeAt limit lengthGood xorGood headerRows headerOf sizeOf decoded noneThere commandAt sizeAt starts startsOf among exposesBetween firstExposure targetGood rasterAt flagsGood somePast checksumOf listCard pathRows rasterRows runRows exposeRows loopRows closeRows judged judge aborted entered begun advances exposed looped delayed called ended act stepIn stepOf walked walk checkOne onward follow chainOf checkRows checkOf powerOn runsWrong rangeTests outOfRange telecommandOf ownRows lentWrong packetRows codeOf statusOf effect obeyedUnit reply refusedUnit unitAfter replyOf answerOf sightsOf
 samples-right = refl

@@ -23,14 +23,14 @@ use Rattle.runner.specs.declared.Opened.{Opened}
 use Rattle.survey.specs.declared.Ending.{Ending}
 use Rattle.survey.specs.declared.Ending.the-variants.{Unlisted, Finishes, Returns, Faults}
 use Rattle.survey.specs.Chain.{Told}
-use Rattle.survey.specs.Report.{endingShown}
+use Rattle.survey.specs.Report.{endingShown, reasonOf}
 use Rattle.promises.specs.Library.{ours}
 use Rattle.promises.specs.Kept.{IsPassed}
 use Rattle.promises.specs.Demand3.{Chain, last-terminates, last-returns, last-faulty, then-called, Differ, Lists, EndsOrReturns, HasFault}
 use Rattle.promises.specs.EachCheck.{Given, rulesAt, isClosing, UpTo, there, next, Passes, Breaks, FaultIn, stepsOfSequence, exposuresOfSequence, sumOver, SentencesDecide}
 use Rattle.promises.proofs.Run.Events.{fault-so}
 use Rattle.promises.proofs.Chain.Listing.{among-first}
-use Rattle.promises.proofs.Chain.Unique.{call-same, no-call, faultAt, no-answer, returns-short, same-names}
+use Rattle.promises.proofs.Chain.Unique.{call-same, no-call, faultAt, no-answer, one-reason, returns-short, same-names}
 use Rattle.promises.proofs.EachCheck.{check-sixteen, check-seven, rules-applied, calls-followed, totals-told}
 
 -- ── one text, one verdict
@@ -86,51 +86,52 @@ module _ (F : Format) (lists seqs : List ℕ) where
     where
       go : Passes (envOf F lists) (entryOf F seqs n) ⊎ FaultIn n e → faultAt e ≡ suc n
       go (inl p) = absurd (not-both (envOf F lists) (entryOf F seqs n) (f .code) (f .place) p b)
-      go (inr (c, q, h)) = let w : e ≡ Faults n (fault c q) = fault-so h in ap faultAt w
+      go (inr (c, q, h)) = let w : e ≡ Faults n (fault c q) (reasonOf e) = fault-so h in ap faultAt w
 
-  alike : (before : List ℕ) {listed listed′ xs ys : List ℕ} {n : ℕ} {e e′ : Ending} → Chain F seqs listed n xs e → Chain F seqs listed′ n ys e′
+  alike : (before : List ℕ) {listed listed′ xs ys : List ℕ} {n : ℕ} {e e′ : Ending} → Chain F seqs lists listed n xs e → Chain F seqs lists listed′ n ys e′
       → listed ≡ before ++ xs → listed′ ≡ before ++ ys → Differ listed → Differ listed′ → Judged xs e → Judged ys e′ → faultAt e ≡ faultAt e′
   alike before (last-terminates a) (last-terminates b) h h′ d d′ j j′ = refl
   alike before (last-terminates a) (last-returns b l) h h′ d d′ j j′ = refl
-  alike before (last-terminates {n} a) (last-faulty {fault}) h h′ d d′ j j′ = fault-alike n fault [] Finishes (j′ .broken (fault .code) n (fault .place) refl) j
+  alike before (last-terminates {n} a) (last-faulty {fault} r) h h′ d d′ j j′ = fault-alike n fault [] Finishes (j′ .broken (fault .code) n (fault .place) refl) j
   alike before (last-terminates a) (then-called b c) h h′ d d′ j j′ = absurd (no-call a b)
   alike before (last-returns a l) (last-terminates b) h h′ d d′ j j′ = refl
   alike before (last-returns a l) (last-returns b k) h h′ d d′ j j′ = refl
-  alike before (last-returns {n} a l) (last-faulty {fault}) h h′ d d′ j j′ = fault-alike n fault [] Returns (j′ .broken (fault .code) n (fault .place) refl) j
+  alike before (last-returns {n} a l) (last-faulty {fault} r) h h′ d d′ j j′ = fault-alike n fault [] Returns (j′ .broken (fault .code) n (fault .place) refl) j
   alike before (last-returns a l) (then-called {n} {m} {names} b c) h h′ d d′ j j′ =
-      absurd (returns-short F seqs before names n m (subst₂ (λ (x : ℕ) (ns : List ℕ). among x ns ≡ true) (call-same a b) h l) c (subst Differ h′ d′))
-  alike before (last-faulty {n} {fault}) (last-terminates b) h h′ d d′ j j′ = sym (fault-alike n fault [] Finishes (j .broken (fault .code) n (fault .place) refl) j′)
-  alike before (last-faulty {n} {fault}) (last-returns b k) h h′ d d′ j j′ = sym (fault-alike n fault [] Returns (j .broken (fault .code) n (fault .place) refl) j′)
-  alike before last-faulty last-faulty h h′ d d′ j j′ = refl
-  alike before (last-faulty {n} {fault}) (then-called {names} {ending} b c) h h′ d d′ j j′ = sym (fault-alike n fault names ending (j .broken (fault .code) n (fault .place) refl) j′)
+      absurd (returns-short F seqs lists before names n m (subst₂ (λ (x : ℕ) (ns : List ℕ). among x ns ≡ true) (call-same a b) h l) c (subst Differ h′ d′))
+  alike before (last-faulty {n} {fault} r) (last-terminates b) h h′ d d′ j j′ = sym (fault-alike n fault [] Finishes (j .broken (fault .code) n (fault .place) refl) j′)
+  alike before (last-faulty {n} {fault} r) (last-returns b k) h h′ d d′ j j′ = sym (fault-alike n fault [] Returns (j .broken (fault .code) n (fault .place) refl) j′)
+  alike before (last-faulty r) (last-faulty r′) h h′ d d′ j j′ = refl
+  alike before (last-faulty {n} {fault} r) (then-called {names} {ending} b c) h h′ d d′ j j′ = sym (fault-alike n fault names ending (j .broken (fault .code) n (fault .place) refl) j′)
   alike before (then-called a c) (last-terminates b) h h′ d d′ j j′ = absurd (no-call b a)
   alike before (then-called {n} {m} {names} a c) (last-returns b k) h h′ d d′ j j′ =
-      absurd (returns-short F seqs before names n m (subst₂ (λ (x : ℕ) (ns : List ℕ). among x ns ≡ true) (call-same b a) h′ k) c (subst Differ h d))
-  alike before (then-called {names} {ending} a c) (last-faulty {n} {fault}) h h′ d d′ j j′ = fault-alike n fault names ending (j′ .broken (fault .code) n (fault .place) refl) j
+      absurd (returns-short F seqs lists before names n m (subst₂ (λ (x : ℕ) (ns : List ℕ). among x ns ≡ true) (call-same b a) h′ k) c (subst Differ h d))
+  alike before (then-called {names} {ending} a c) (last-faulty {n} {fault} r) h h′ d d′ j j′ = fault-alike n fault names ending (j′ .broken (fault .code) n (fault .place) refl) j
   alike before {listed′} (then-called {n} {names} {ending} a c) (then-called {names = names′} {ending = ending′} b c′) h h′ d d′ j j′ =
       let on : (ns : List ℕ) → before ++ (n ∷ ns) ≡ (before ++ (n ∷ [])) ++ ns = λ ns. sym (append-assoc before (n ∷ []) ns) in
-      alike (before ++ (n ∷ [])) c (subst (λ (x : ℕ). Chain F seqs listed′ x names′ ending′) (call-same b a) c′) (h ∙ on names) (h′ ∙ on names′) d d′
+      alike (before ++ (n ∷ [])) c (subst (λ (x : ℕ). Chain F seqs lists listed′ x names′ ending′) (call-same b a) c′) (h ∙ on names) (h′ ∙ on names′) d d′
       (rest-judged n names ending j) (rest-judged n names′ ending′ j′)
 
   -- the same sequence at fault, the same fault
-  same-ending : {n : ℕ} {listed : List ℕ} (e e′ : Ending) (xs ys : List ℕ) → Chain F seqs listed n xs e → faultAt e ≡ faultAt e′ → (IsPassed e → e ≡ e′) → Judged xs e → Judged ys e′ → e ≡ e′
-  same-ending (Unlisted c) e′ xs ys l y f j j′ = absurd (no-answer F seqs l)
-  same-ending Finishes e′ xs ys l y f j j′ = f tt
-  same-ending Returns e′ xs ys l y f j j′ = f tt
-  same-ending (Faults n v) (Unlisted c′) xs ys l y f j j′ = absurd (omega arith)
-  same-ending (Faults n v) Finishes xs ys l y f j j′ = absurd (omega arith)
-  same-ending (Faults n v) Returns xs ys l y f j j′ = absurd (omega arith)
-  same-ending (Faults n v) (Faults n′ v′) xs ys l y f j j′ =
+  same-ending : {n : ℕ} {listed listed′ : List ℕ} (e e′ : Ending) (xs ys : List ℕ) → Chain F seqs lists listed n xs e → Chain F seqs lists listed′ n ys e′ → faultAt e ≡ faultAt e′ → (IsPassed e → e ≡ e′) → Judged xs e → Judged ys e′ → e ≡ e′
+  same-ending (Unlisted c) e′ xs ys l l′ y f j j′ = absurd (no-answer F seqs lists l)
+  same-ending Finishes e′ xs ys l l′ y f j j′ = f tt
+  same-ending Returns e′ xs ys l l′ y f j j′ = f tt
+  same-ending (Faults n v r) (Unlisted c′) xs ys l l′ y f j j′ = absurd (omega arith)
+  same-ending (Faults n v r) Finishes xs ys l l′ y f j j′ = absurd (omega arith)
+  same-ending (Faults n v r) Returns xs ys l l′ y f j j′ = absurd (omega arith)
+  same-ending {n = m} {listed} (Faults n v r) (Faults n′ v′ r′) xs ys l l′ y f j j′ =
       let w : n ≡ n′ = omega arith in
       let b = subst (λ (x : ℕ). Breaks (envOf F lists) (entryOf F seqs x) (v .code) (v .place)) w (j .broken (v .code) n (v .place) refl) in
       let (code, place) = one-fault (envOf F lists) (entryOf F seqs n′) (v .code) (v .place) (v′ .code) (v′ .place) b (j′ .broken (v′ .code) n′ (v′ .place) refl) in
-      λ i. Faults (w i) (fault (code i) (place i))
+      let same : Faults n v r ≡ Faults n′ v′ r = λ i. Faults (w i) (fault (code i) (place i)) r in
+      same ∙ ap (Faults n′ v′) (one-reason F seqs lists (subst (Chain F seqs lists listed m xs) same l) l′)
 
   -- the same totals: the sums over the same names, or 0 at a fault
   abbrev Sums : Told → Type 0
   Sums t = (t .steps ≡ sumOver F stepsOfSequence seqs (t .names)) × (t .exposures ≡ sumOver F exposuresOfSequence seqs (t .names))
 
-  same-totals : (n : ℕ) (t u : Told) (e : Ending) → Lists F seqs n t → Lists F seqs n u → t .names ≡ u .names → t .ending ≡ e → u .ending ≡ e
+  same-totals : (n : ℕ) (t u : Told) (e : Ending) → Lists F seqs lists n t → Lists F seqs lists n u → t .names ≡ u .names → t .ending ≡ e → u .ending ≡ e
       → (EndsOrReturns (t .ending) → Sums t) → (EndsOrReturns (u .ending) → Sums u) → (t .steps ≡ u .steps) × (t .exposures ≡ u .exposures)
   same-totals n t u e a b names w z f g = go e w z
     where
@@ -138,20 +139,20 @@ module _ (F : Format) (lists seqs : List ℕ) where
       sums (k, x) (k′, x′) = (k ∙ ap (sumOver F stepsOfSequence seqs) names ∙ sym k′, x ∙ ap (sumOver F exposuresOfSequence seqs) names ∙ sym x′)
 
       go : (e : Ending) → t .ending ≡ e → u .ending ≡ e → (t .steps ≡ u .steps) × (t .exposures ≡ u .exposures)
-      go (Unlisted c) w z = absurd (no-answer F seqs (subst (Chain F seqs (t .names) n (t .names)) w (a .chain)))
+      go (Unlisted c) w z = absurd (no-answer F seqs lists (subst (Chain F seqs lists (t .names) n (t .names)) w (a .chain)))
       go Finishes w z = sums (f (inl (ap endingShown w))) (g (inl (ap endingShown z)))
       go Returns w z = sums (f (inr (ap endingShown w))) (g (inr (ap endingShown z)))
-      go (Faults q v) w z =
+      go (Faults q v r) w z =
           let (k, x) = a .totals (ap (λ (v : Ending). endingShown v .number) w) in
           let (k′, x′) = b .totals (ap (λ (v : Ending). endingShown v .number) z) in
           (k ∙ sym k′, x ∙ sym x′)
 
-  same-told : (n : ℕ) (t u : Told) → Lists F seqs n t → Lists F seqs n u → Judged (t .names) (t .ending) → Judged (u .names) (u .ending)
+  same-told : (n : ℕ) (t u : Told) → Lists F seqs lists n t → Lists F seqs lists n u → Judged (t .names) (t .ending) → Judged (u .names) (u .ending)
       → (EndsOrReturns (t .ending) → Sums t) → (EndsOrReturns (u .ending) → Sums u) → t ≡ u
   same-told n t u a b j j′ f g =
       let y = alike [] (a .chain) (b .chain) refl refl (a .differ) (b .differ) j j′ in
-      let (names, ends) = same-names F seqs [] (a .chain) (b .chain) refl refl (a .differ) (b .differ) y in
-      let ending = same-ending (t .ending) (u .ending) (t .names) (u .names) (a .chain) y ends j j′ in
+      let (names, ends) = same-names F seqs lists [] (a .chain) (b .chain) refl refl (a .differ) (b .differ) y in
+      let ending = same-ending (t .ending) (u .ending) (t .names) (u .names) (a .chain) (b .chain) y ends j j′ in
       let (k, x) = same-totals n t u (u .ending) a b names ending refl f g in
       λ i. record { names = names i; ending = ending i; steps = k i; exposures = x i }
 

@@ -1,6 +1,6 @@
 -- Demand 3: what the table check promises of the unit. Each definition says a part of it, in plain words and then in symbols.
 -- It is a statement of any library L: of its check, its step and what its packets leave (Library).
-use Prim.Native.Nat.{ℕ, zero, suc, _+_, _*_, _≤_}
+use Prim.Native.Nat.{ℕ, zero, suc, _+_, _*_, _≤_, _<_}
 use mathlib.Core.Path.{_≡_}
 use mathlib.Core.Bool.{true, false, cond, _||_}
 use mathlib.Core.List.{List, [], _∷_, _++_}
@@ -8,22 +8,25 @@ use mathlib.Core.Logic.{_⊎_}
 use lib.ListN.{length}
 use Rattle.octets.specs.Bytes.{byteAt}
 use Rattle.memory.specs.declared.Format.{Format}
-use Rattle.memory.specs.Memory.{entryOf}
+use Rattle.memory.specs.Memory.{entryOf, listOf}
 use Rattle.sequence.specs.declared.Command.{Command}
-use Rattle.sequence.specs.declared.Command.the-variants.{CallSequence, Terminate}
+use Rattle.sequence.specs.declared.Command.the-variants.{RunRaster, CallSequence, Terminate}
 use Rattle.sequence.specs.declared.Fault.{Fault}
 use Rattle.sequence.specs.declared.RasterWords.{RasterWords}
 use Rattle.sequence.specs.Text.{commandAt}
 use Rattle.sequence.specs.Starts.{startsOf, rastersAmong, among}
 use Rattle.sequence.specs.Raster.{rasterAt, startOf}
+use Rattle.sequence.specs.LineList.{listCard}
 use Rattle.runner.specs.declared.Event.{Event}
 use Rattle.runner.specs.declared.Event.the-variants.{Enter, Raster, Exp}
 use Rattle.survey.specs.declared.Ending.{Ending}
 use Rattle.survey.specs.declared.Ending.the-variants.{Finishes, Returns, Faults}
+use Rattle.survey.specs.declared.Reason.{Reason}
+use Rattle.survey.specs.declared.Reason.the-variants.{None, OfList}
 use Rattle.survey.specs.Turns.{turns}
 use Rattle.survey.specs.Items.{positionAt}
 use Rattle.survey.specs.Chain.{Told}
-use Rattle.survey.specs.Report.{endingAs, endingShown}
+use Rattle.survey.specs.Report.{endingAs, endingShown, reasonShown}
 use Rattle.unit.specs.declared.Unit.{Unit as ControlUnit}
 use Rattle.unit.specs.declared.Outcome.{Outcome}
 use Rattle.unit.specs.declared.Outcome.the-variants.{Denied, Saw}
@@ -117,22 +120,30 @@ Calling F seqs n m = closingOf (entryOf F seqs n) ≡ CallSequence m
 abbrev pub Terminating : Format → List ℕ → ℕ → Type 0
 Terminating F seqs n = closingOf (entryOf F seqs n) ≡ Terminate
 
+-- What the fault in a text tells besides its code and place. "The line list test is to say which": a fault with code 7 is at a run raster, and its
+-- reason is what the test answers for the line list that this run raster names; its number is not 0, good. A fault with another code has none.
+pub record Reasoned (text lists : List ℕ) (fault : Fault) (reason : Reason) : Type 0 where
+  pub seven : fault .code ≡ 7 → (commandAt text (fault .place) ≡ RunRaster) × (reason ≡ OfList (listCard (listOf lists (rasterAt text (fault .place) .list)))) × (0 < reasonShown reason .number)
+  pub other : (fault .code ≡ 7 → ⊥) → reason ≡ None
+
 -- "Follows the call, and ends at terminate or at a sequence already listed." The chain from sequence n has these names in order: the first is n,
--- and each next one is the call of the one before. The last one terminates; or its call is listed, and the chain returns; or the fault is in it.
-pub data Chain (F : Format) (seqs listed : List ℕ) : ℕ → List ℕ → Ending → Type 0 where
-  last-terminates : {n : ℕ} → Terminating F seqs n → Chain F seqs listed n (n ∷ []) Finishes
-  last-returns : {n m : ℕ} → Calling F seqs n m → among m listed ≡ true → Chain F seqs listed n (n ∷ []) Returns
-  last-faulty : {n : ℕ} {fault : Fault} → Chain F seqs listed n (n ∷ []) (Faults n fault)
-  then-called : {n m : ℕ} {names : List ℕ} {ending : Ending} → Calling F seqs n m → Chain F seqs listed m names ending → Chain F seqs listed n (n ∷ names) ending
+-- and each next one is the call of the one before. The last one terminates; or its call is listed, and the chain returns; or the fault is in it,
+-- told with its reason.
+pub data Chain (F : Format) (seqs lists listed : List ℕ) : ℕ → List ℕ → Ending → Type 0 where
+  last-terminates : {n : ℕ} → Terminating F seqs n → Chain F seqs lists listed n (n ∷ []) Finishes
+  last-returns : {n m : ℕ} → Calling F seqs n m → among m listed ≡ true → Chain F seqs lists listed n (n ∷ []) Returns
+  last-faulty : {n : ℕ} {fault : Fault} {reason : Reason} → Reasoned (entryOf F seqs n) lists fault reason → Chain F seqs lists listed n (n ∷ []) (Faults n fault reason)
+  then-called : {n m : ℕ} {names : List ℕ} {ending : Ending} → Calling F seqs n m → Chain F seqs lists listed m names ending → Chain F seqs lists listed n (n ∷ names) ending
 
 -- "The listed ones once each": no two are the same.
 abbrev pub Differ : List ℕ → Type 0
 Differ [] = Unit {0}
 Differ (n ∷ ns) = (among n ns ≡ false) × Differ ns
 
--- What the check tells of the chain from sequence n: it has an answer, the names are that chain's, and no one is listed twice.
-pub record Lists (F : Format) (seqs : List ℕ) (n : ℕ) (t : Told) : Type 0 where
-  pub chain : Chain F seqs (t .names) n (t .names) (t .ending)
+-- What the check tells of the chain from sequence n: it has an answer, the names are that chain's, a fault's reason is right, and no one is listed
+-- twice.
+pub record Lists (F : Format) (seqs lists : List ℕ) (n : ℕ) (t : Told) : Type 0 where
+  pub chain : Chain F seqs lists (t .names) n (t .names) (t .ending)
   pub differ : Differ (t .names)
   -- "a fault gives .. totals 0"
   pub totals : endingShown (t .ending) .number ≡ 3 → (t .steps ≡ 0) × (t .exposures ≡ 0)
@@ -272,7 +283,7 @@ Demand3 F L = (w : World F) → Reached L w → modeOf w ≡ 2 → (n : ℕ) →
     → let t = L .checks F (w .seqs) (w .lists) n in
     let v = after L (packet out time (selecting n)) w in
     let s = after L (packet out′ time′ starting) v in
-    (codeFor L out time (selecting n) w ≡ 0) × (codeFor L out′ time′ starting v ≡ 0) × Lists F (w .seqs) n t × KeepsPassed L t s × KeepsFaulted L t s
+    (codeFor L out time (selecting n) w ≡ 0) × (codeFor L out′ time′ starting v ≡ 0) × Lists F (w .seqs) (w .lists) n t × KeepsPassed L t s × KeepsFaulted L t s
 
 -- ── 7. Besides
 

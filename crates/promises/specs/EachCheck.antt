@@ -112,11 +112,11 @@ RulesApplied L = (F : Format) (seqs lists : List ℕ) (n : ℕ) → Given F seqs
     × ((code m place : ℕ) → HasFault code m place (t .ending) → Breaks (envOf F lists) (entryOf F seqs m) code place)
 
 -- ── 3. "Follows the call, and ends at terminate or at a sequence already listed. The check names the chain's sequences in order, says whether it
--- ends or returns, .. A fault gives sequence, place, code, the chain through that sequence, and totals 0."
+-- ends or returns, .. A fault gives sequence, place, code, the chain through that sequence, and totals 0." And its reason (P4).
 
 -- Lists (Demand3) is just this.
 abbrev pub CallsFollowed : Library → Type 0
-CallsFollowed L = (F : Format) (seqs lists : List ℕ) (n : ℕ) → Given F seqs lists n → Lists F seqs n (L .checks F seqs lists n)
+CallsFollowed L = (F : Format) (seqs lists : List ℕ) (n : ℕ) → Given F seqs lists n → Lists F seqs lists n (L .checks F seqs lists n)
 
 -- ── 4. "And gives exposures and steps over the listed ones once each."
 

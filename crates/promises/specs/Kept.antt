@@ -37,7 +37,7 @@ abbrev pub KeptBy : Env → List ℕ → Told → Runner → Ending → Type 0
 KeptBy E seqs t s (Unlisted code) = ⊥
 KeptBy E seqs t s Finishes = (sights : List Sight) × Ran E seqs sights (t .names) (t .steps) (t .exposures) AtRest s
 KeptBy E seqs t s Returns = (sights : List Sight) × Ran E seqs sights (t .names) (t .steps) (t .exposures) (Back E (t .names)) s
-KeptBy E seqs t s (Faults n fault) = Aborts E seqs n fault s
+KeptBy E seqs t s (Faults n fault reason) = Aborts E seqs n fault s
 
 abbrev pub Kept : Env → List ℕ → Told → Runner → Type 0
 Kept E seqs t s = KeptBy E seqs t s (t .ending)
@@ -47,4 +47,4 @@ abbrev pub IsPassed : Ending → Type 0
 IsPassed (Unlisted code) = ⊥
 IsPassed Finishes = Unit {0}
 IsPassed Returns = Unit {0}
-IsPassed (Faults n fault) = ⊥
+IsPassed (Faults n fault reason) = ⊥

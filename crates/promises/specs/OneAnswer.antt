@@ -21,6 +21,7 @@ use Rattle.sequence.specs.declared.Header.{Header}
 use Rattle.sequence.specs.declared.Command.{Command}
 use Rattle.sequence.specs.declared.RasterWords.{RasterWords}
 use Rattle.sequence.specs.declared.ListCard.{ListCard}
+use Rattle.sequence.specs.declared.ReasonNumbers.{ReasonNumbers}
 use Rattle.runner.proofs as runner
 use Rattle.runner.specs.declared.Act.{Act}
 use Rattle.runner.specs.declared.Stepped.{Stepped}
@@ -180,6 +181,9 @@ OneSequenceFlagsGood = One Bool sequence.flags_good.Kinds.ps sequence.flags_good
 abbrev pub OneSequenceListCard : Type 0
 OneSequenceListCard = One ListCard sequence.list_card.Kinds.ps sequence.list_card.Kinds.r sequence.list_card.Reads.Learnt (λ κs r e. r)
 
+abbrev pub OneSequenceListCardShown : Type 0
+OneSequenceListCardShown = One ReasonNumbers sequence.ListCard.shown.Kinds.ps sequence.ListCard.shown.Kinds.r sequence.ListCard.shown.Reads.Learnt (λ κs r e. r)
+
 abbrev pub OneSequencePast : Type 0
 OneSequencePast = One ℕ sequence.past.Kinds.ps sequence.past.Kinds.r sequence.past.Reads.Learnt (λ κs r e. r)
 
@@ -199,6 +203,9 @@ OneSurveyCheck = One Report survey.check.Kinds.ps survey.check.Kinds.r survey.ch
 
 abbrev pub OneSurveyCheckOne : Type 0
 OneSurveyCheckOne = One Walked survey.check_one.Kinds.ps survey.check_one.Kinds.r survey.check_one.Reads.Learnt (λ κs r e. r)
+
+abbrev pub OneSurveyReasonShown : Type 0
+OneSurveyReasonShown = One ReasonNumbers survey.Reason.shown.Kinds.ps survey.Reason.shown.Kinds.r survey.Reason.shown.Reads.Learnt (λ κs r e. r)
 
 -- ── telecommand
 abbrev pub OneTelecommandTelecommandOf : Type 0
@@ -302,6 +309,9 @@ OneLineIsHex = One Bool line.is_hex.Kinds.ps line.is_hex.Kinds.r line.is_hex.Rea
 
 abbrev pub OneLineNumber : Type 0
 OneLineNumber = One Numeral line.number.Kinds.ps line.number.Kinds.r line.number.Reads.Learnt (λ κs r e. r)
+
+abbrev pub OneLineBegins : Type 0
+OneLineBegins = One Bool line.begins.Kinds.ps line.begins.Kinds.r line.begins.Reads.Learnt (λ κs r e. r)
 
 abbrev pub OneLineReadLine : Type 0
 OneLineReadLine = One (Line × List ℕ) line.read_line.Kinds.ps line.read_line.Kinds.r line.read_line.Reads.Learnt (λ κs r (_, (bytes, _)). (r, now bytes))

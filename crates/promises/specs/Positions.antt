@@ -10,7 +10,7 @@ use Rattle.survey.specs.Walk.{Finding, passes, faults, findingOf}
 -- all rounds of a sequence, from what its check finds: each shows the positions of its rasters in text order
 abbrev pub roundsPositions : List ℕ → Finding → List ℕ
 roundsPositions text (passes k x items p closing) = turns 0 (byteAt text 3) (λ r left. positionsOf text items)
-roundsPositions text (faults fault) = []
+roundsPositions text (faults fault reason) = []
 
 -- the listed sequences, one after another
 unfoldable pub chainPositions : Env → List ℕ → List ℕ → List ℕ

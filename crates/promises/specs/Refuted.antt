@@ -18,7 +18,8 @@ use Rattle.runner.specs.Events.{shows}
 use Rattle.runner.specs.Step.{to}
 use Rattle.runner.specs.With.{withRunning, withMirror}
 use Rattle.survey.specs.declared.Ending.{Ending}
-use Rattle.survey.specs.declared.Ending.the-variants.{Finishes, Faults}
+use Rattle.survey.specs.declared.Ending.the-variants.{Unlisted, Finishes, Returns, Faults}
+use Rattle.survey.specs.declared.Reason.the-variants.{None}
 use Rattle.survey.specs.Walk.{findingOf}
 use Rattle.survey.specs.Chain.{Told, told, chainOf}
 use Rattle.unit.specs.declared.Unit.{Unit as ControlUnit}
@@ -174,7 +175,7 @@ abbrev pub passesAll : Library
 passesAll = withCheck (λ F seqs lists n. let t = ours .checks F seqs lists n in told (t .names) Finishes (t .steps) (t .exposures))
 
 abbrev pub faultsAll : Library
-faultsAll = withCheck (λ F seqs lists n. let t = ours .checks F seqs lists n in told (t .names) (Faults n (fault 3 4)) (t .steps) (t .exposures))
+faultsAll = withCheck (λ F seqs lists n. let t = ours .checks F seqs lists n in told (t .names) (Faults n (fault 3 4) None) (t .steps) (t .exposures))
 
 abbrev pub inventsSteps : Library
 inventsSteps = withCheck (λ F seqs lists n. let t = ours .checks F seqs lists n in told (t .names) (t .ending) (t .steps + 1) (t .exposures))
@@ -212,9 +213,18 @@ repeatAtLast =
     let mirror = cond (eqb (u .runner .place) (u .runner .raster .place)) (u .runner .mirror) (r .unit .runner .mirror) in
     record { outcome = r .outcome; unit = withRunner (withMirror mirror (r .unit .runner)) (r .unit) })
 
--- A check that takes every line list for a good one; a sequence table that is written while a sequence runs.
+-- A check that takes every line list for a good one; one that tells no fault's reason; a sequence table that is written while a sequence runs.
 abbrev pub faultyRasterPassed : Library
 faultyRasterPassed = withCheck (λ F seqs lists n. chainOf F (findingOf (record { format = F; cards = λ k. Good }) seqs) n)
+
+abbrev pub unreasoned : Ending → Ending
+unreasoned (Unlisted code) = Unlisted code
+unreasoned Finishes = Finishes
+unreasoned Returns = Returns
+unreasoned (Faults n f reason) = Faults n f None
+
+abbrev pub dropsReasons : Library
+dropsReasons = withCheck (λ F seqs lists n. let t = ours .checks F seqs lists n in told (t .names) (unreasoned (t .ending)) (t .steps) (t .exposures))
 
 abbrev pub uplinkWhileRunning : Library
 uplinkWhileRunning =
@@ -224,13 +234,14 @@ pub record MisreadRefuted : Type 0 where
   pub mirror-each-exposure : Demand3 flight mirrorEachExposure → ⊥
   pub repeat-at-last : Demand3 flight repeatAtLast → ⊥
   pub faulty-raster-passed : Demand3 flight faultyRasterPassed → ⊥
+  pub reason-dropped : Demand3 flight dropsReasons → ⊥
   pub uplink-while-running : Demand3 flight uplinkWhileRunning → ⊥
 
 -- ── 7. Any other check
 
 -- Beside our unit demand 3 decides all that the check tells, over all tables of the right sizes (Applies: each is reached in MANUAL) and of every
--- sequence: a check that keeps it tells what ours tells, the names, the ending with a fault's code, sequence and place, the steps and the exposures.
--- So one that differs from ours at a single table keeps no demand 3.
+-- sequence: a check that keeps it tells what ours tells, the names, the ending with a fault's code, sequence, place and reason, the steps and the
+-- exposures. So one that differs from ours at a single table keeps no demand 3.
 abbrev pub CheckDecided : Format → Type 0
 CheckDecided F = (f : Format → List ℕ → List ℕ → ℕ → Told) → Demand3 F (withCheck f) → (w : World F) → Reached ours w → modeOf w ≡ 2 → (n : ℕ) → n ≤ F .last
     → f F (w .seqs) (w .lists) n ≡ ours .checks F (w .seqs) (w .lists) n

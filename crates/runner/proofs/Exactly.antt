@@ -1,22 +1,27 @@
 -- A command is refused exactly when a row of its table refuses it, with the code of the first row that holds: one law, and each
--- command's table under it. Assumes nothing.
-use Prim.Native.Nat.{ℕ, _<_}
+-- command's table under it; so code 7 tells of a run raster's line list. Assumes nothing.
+use Prim.Native.Nat.{ℕ, _≤_, _<_}
 use native.Mathlib.Omega.{arith}
 use mathlib.Core.Path.{_≡_, refl, sym, ap, _∙_}
-use mathlib.Core.Bool.{Bool, true, false, cond}
-use mathlib.Core.List.{List}
-use mathlib.Core.Logic.{_↔_}
-use lib.Dec.{T, eqb}
-use borrow.Author.Tests.{eqb-true, ne-eqb}
-use Rattle.octets.specs.Rows.{Row, firstCode, NoneHolds, FirstBears, coded}
+use mathlib.Core.Bool.{Bool, true, false, cond, not, _&&_}
+use mathlib.Core.List.{List, [], _∷_, _++_}
+use mathlib.Core.Logic.{_↔_, inl, inr}
+use lib.Dec.{T, ltb, eqb}
+use borrow.Author.Tests.{ltb-true, ltb-false, eqb-true, eq-eqb, ne-eqb}
+use Rattle.octets.specs.Rows.{Row, row, firstCode, NoneHolds, FirstBears, coded}
+use Rattle.octets.proofs.Bools.{and-T}
 use Rattle.octets.proofs.Laws.{none-holds, no-code, first-bears, bears-first}
-use Rattle.sequence.specs.declared.Command.the-variants.{RunRaster, Expose, LoopBack, CallSequence, Terminate}
+use Rattle.sequence.specs.declared.Command.{Command}
+use Rattle.sequence.specs.declared.Command.the-variants.{RunRaster, Expose, LoopBack, CallSequence, Terminate, Delay, Nothing, Unknown, Unfit}
 use Rattle.sequence.specs.declared.ListCard.{ListCard}
+use Rattle.sequence.specs.Text.{commandAt}
+use Rattle.sequence.specs.Raster.{rasterAt}
+use Rattle.sequence.specs.LineList.{cardShown}
 use Rattle.runner.specs.declared.Opened.{Opened}
 use Rattle.runner.specs.declared.Opened.the-variants.{Shut, Open}
 use Rattle.runner.specs.declared.Act.{Act}
 use Rattle.runner.specs.declared.Act.the-variants.{Refused, Opens, Exposes, Loops, Calls, Ends}
-use Rattle.runner.specs.Judge.{pathRows, rasterRows, runRows, exposeRows, loopRows, closeRows, unless, judged}
+use Rattle.runner.specs.Judge.{openElsewhere, repeatBegun, countRows, pathRows, flagRows, rasterRows, runRows, exposeRows, loopRows, closeRows, unless, judged, judge}
 use Rattle.memory.specs.declared.Place.{Place}
 
 -- an act is done exactly when no row holds, and refused with a code exactly when the first row that holds bears it
@@ -57,7 +62,7 @@ module _ (rs : List Row) (a : Act) (plain : Plain a) where
 clash : _≡_ {A = ℕ} 0 1 → ⊥
 clash z = omega arith
 
-loop-coded : (text : List ℕ) (p t : ℕ) (o : Opened) → T (coded (loopRows text p t o))
+pub loop-coded : (text : List ℕ) (p t : ℕ) (o : Opened) → T (coded (loopRows text p t o))
 unfolding loopRows
 loop-coded text p t Shut = tt
 loop-coded text p t (Open r c n) = tt
@@ -86,3 +91,52 @@ module _ (cards : ℕ → ListCard) (text : List ℕ) (p : ℕ) where
   pub terminate-exactly : (o : Opened) → Exactly (closeRows text p o) (judged cards text p o Terminate) Ends
   unfolding judged closeRows
   terminate-exactly o = exactly (closeRows text p o) Ends (λ c e. clash (cc)) tt
+
+-- ── code 7
+-- no row bears a code; then it is not that of the first row that holds
+abbrev without : ℕ → List Row → Bool
+without c [] = true
+without c (r ∷ rs) = not (eqb (r .code) c) && without c rs
+
+nowhere : (c : ℕ) (rs : List Row) → T (without c rs) → FirstBears c rs → ⊥
+nowhere c [] w f = f
+nowhere c (r ∷ rs) w (inl (h, e)) = rw (eq-eqb (r .code) c e) at w
+nowhere c (r ∷ rs) w (inr (h, f)) = nowhere c rs (and-T (not (eqb (r .code) c)) (without c rs) w .1) f
+
+-- one row bears it: if it is that of the first row that holds, this row holds and none before it does
+only : (c : ℕ) (xs ys : List Row) (t : Bool) → T (without c (xs ++ ys)) → FirstBears c (xs ++ (row c t ∷ ys)) → NoneHolds xs × (t ≡ true)
+only c [] ys t w (inl (h, e)) = (tt, h)
+only c [] ys t w (inr (h, f)) = absurd (nowhere c ys w f)
+only c (r ∷ rs) ys t w (inl (h, e)) = absurd (rw (eq-eqb (r .code) c e) at w)
+only c (r ∷ rs) ys t w (inr (h, f)) = let (n, g) = only c rs ys t (and-T (not (eqb (r .code) c)) (without c (rs ++ ys)) w .1) f in ((h, n), g)
+
+module _ (cards : ℕ → ListCard) (text : List ℕ) (p : ℕ) where
+  -- a run raster, and the test of its line list does not answer 0, good
+  abbrev pub ListBad : Command → Type 0
+  ListBad k = (k ≡ RunRaster) × (0 < cardShown (cards (rasterAt text p .list)) .number) × (rasterAt text p .list ≤ 47)
+
+  not-seven : {rs : List Row} {judgement act : Act} → Exactly rs judgement act → T (without 7 rs) → judgement ≡ Refused 7 → {k : Command} → ListBad k
+  not-seven {rs} x w e = absurd (nowhere 7 rs w (x .refused 7 (omega arith) .0 e))
+
+  seven-judged : (o : Opened) (k : Command) → judged cards text p o k ≡ Refused 7 → ListBad k
+  unfolding judged runRows rasterRows pathRows exposeRows loopRows closeRows
+  seven-judged o RunRaster e =
+      let raster = rasterAt text p in
+      let before = row 3 (openElsewhere p o) ∷ (countRows raster ++ (row 6 (ltb 47 (raster .list)) ∷ [])) in
+      let (none, bad) = only 7 before (pathRows raster (repeatBegun raster o) ++ flagRows raster) (ltb 0 (cardShown (cards (raster .list)) .number)) tt (run-raster-exactly cards text p o .refused 7 (omega arith) .0 e) in
+      (refl, ltb-true 0 _ bad, ltb-false 47 _ (none .1 .1 .1 .1 .1 .0))
+  seven-judged Shut (Expose t) e = absurd (clash (cc))
+  seven-judged (Open r c n) (Expose t) e = not-seven (expose-exactly cards text p t r c n) tt e
+  seven-judged Shut (LoopBack t) e = absurd (clash (cc))
+  seven-judged (Open r c n) (LoopBack t) e = not-seven (loop-back-exactly cards text p t (Open r c n)) tt e
+  seven-judged o (CallSequence n) e = not-seven (call-exactly cards text p n o) tt e
+  seven-judged o Terminate e = not-seven (terminate-exactly cards text p o) tt e
+  seven-judged o (Delay t) e = absurd (clash (cc))
+  seven-judged o Nothing e = absurd (clash (cc))
+  seven-judged o Unknown e = absurd (clash (cc))
+  seven-judged o Unfit e = absurd (clash (cc))
+
+  -- only such a command is refused with 7
+  pub seven : (o : Opened) → judge cards text p o ≡ Refused 7 → ListBad (commandAt text p)
+  unfolding judge
+  seven o e = seven-judged o (commandAt text p) e

@@ -13,7 +13,7 @@ use Rattle.sequence.specs.Text.{limit, sizeAt, commandAt, isRunRaster}
 use Rattle.sequence.specs.Starts.{targetGood}
 use Rattle.sequence.specs.declared.ListCard.{ListCard}
 use Rattle.sequence.specs.Raster.{rasterAt, flagsGood, leaves}
-use Rattle.sequence.specs.LineList.{isBad}
+use Rattle.sequence.specs.LineList.{cardShown}
 use Rattle.runner.specs.declared.Opened.{Opened}
 use Rattle.runner.specs.declared.Opened.the-variants.{Shut, Open}
 use Rattle.runner.specs.declared.Act.{Act}
@@ -57,9 +57,9 @@ countRows raster =
     ∷ row 5 (ltb 8 (raster .exposures))
     ∷ []
 
--- "line list above 47, 6; line list bad 7"
+-- "line list above 47, 6; line list bad 7": the number of the test's answer is not 0, good; which it is does not matter here
 abbrev pub listRows : (ℕ → ListCard) → RasterWords → List Row
-listRows cards raster = row 6 (ltb 47 (raster .list)) ∷ row 7 (isBad (cards (raster .list))) ∷ []
+listRows cards raster = row 6 (ltb 47 (raster .list)) ∷ row 7 (ltb 0 (cardShown (cards (raster .list)) .number)) ∷ []
 
 -- "initial or step above 2400, or initial + (loops - 1) x step above 2400, 14"; k: the repeat that is begun
 unfoldable pub pathRows : RasterWords → ℕ → List Row

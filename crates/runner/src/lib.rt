@@ -7,7 +7,6 @@ ghost use Rattle.sequence.specs.declared.RasterWords.{RasterWords};
 ghost use Rattle.sequence.specs.Raster.{rasterAt, startOf, reachOf};
 ghost use Rattle.sequence.specs.declared.Command.the-variants.{Expose, Delay};
 ghost use Rattle.sequence.specs.Text.{rowOf, fault, sizeAt};
-ghost use Rattle.sequence.specs.LineList.{isBad};
 ghost use Rattle.sequence.specs.Env.{cardsOf, envOf};
 ghost use Rattle.runner.specs.Judge.{isOpen, openElsewhere, countLeft, repeatBegun, setOf, full, countRows, listRows, pathRows, flagRows, rasterRows, runRows, exposeRows, loopRows, closeRows, unless, exposesIn, judge};
 ghost use Rattle.runner.specs.Step.{to, openOf, aborted, entered, advances, exposedAt, another, act, stepIn, stepOf, Stands};
@@ -18,7 +17,6 @@ use memory::Placed;
 use sequence::Command;
 use sequence::Fault;
 use sequence::Header;
-use sequence::ListCard;
 use sequence::RasterWords;
 
 // The open raster: its place, 255 for none; the exposures made in the present set; the passes and the repeats left.
@@ -206,16 +204,6 @@ fn advanced(mirror: u16, step: u16) -> u32
     mirror as u32 + step as u32
 }
 
-// Whether a line list's card refuses it.
-fn list_bad(lists: &[u8], n: u8) -> bool
-    ensures { λ r. ⌜ r ≡ isBad (cardsOf (now (lists .entry)) n) ⌝ }
-{
-    match sequence::list_card(memory::list(lists, n)) {
-        ListCard::Good => false,
-        ListCard::Wrong => true,
-    }
-}
-
 // The code with which a raster's loops, repeats and exposures are refused, or 0.
 fn count_fault(raster: RasterWords) -> u8
     ensures { λ r. ⌜ r ≡ firstCode (countRows raster) ⌝ }
@@ -235,14 +223,15 @@ fn count_fault(raster: RasterWords) -> u8
     )
 }
 
-// The code with which a raster's line list is refused, or 0.
+// The code with which a raster's line list is refused, or 0: which of its tests fails is dropped.
 fn list_fault(raster: RasterWords, lists: &[u8]) -> u8
     ensures { λ r. ⌜ r ≡ firstCode (listRows (cardsOf (now (lists .entry))) raster) ⌝ }
 {
+    let card = sequence::list_card(memory::list(lists, raster.list));
     octets::refuse(
         memory::LAST_LINE_LIST < raster.list,
         6,
-        octets::refuse(list_bad(lists, raster.list), 7, 0),
+        octets::refuse(0 < card.shown().number, 7, 0),
     )
 }
 

@@ -5,7 +5,6 @@ use native.Mathlib.Nat.{mod-lt}
 use native.Mathlib.Numerals.{add-one}
 use native.Mathlib.Omega.{arith}
 use mathlib.Core.Path.{_≡_, refl, sym, ap, ap₂, _∙_}
-use mathlib.Core.Bool.{Bool}
 use mathlib.Core.List.{List, [], _∷_, _++_, append-nil}
 use lib.Arith.{bin-ind}
 use lib.Bits.{bitXor, differ, xor-step, xor-comm, xor-self, xor-zero-r, xor-shr, xor-mod}
@@ -16,6 +15,7 @@ use borrow.Author.Tests.{eqb-true, eqb-false, ne-eqb}
 use Rattle.octets.specs.Bytes.{byteAt, xorOn, xorOf}
 use Rattle.octets.proofs.Bools.{by-test}
 use Rattle.sequence.specs.Text.{limit, xorGood}
+use Rattle.sequence.specs.LineList.{checksumOf}
 
 -- ── XOR in another order
 digit : (P : ℕ → Type 0) → P 0 → P 1 → (n : ℕ) → P (n % 2)
@@ -57,25 +57,34 @@ taken-out x [] (suc at) = xor-zero-r x
 taken-out x (y ∷ l) zero = ap (λ (n : ℕ). xorOn n l) (xor-twice x y)
 taken-out x (y ∷ l) (suc at) = ap (λ (n : ℕ). xorOn n l) (xor-swap x (byteAt l at) y) ∙ taken-out (bitXor x y) l at
 
-pub sum-out : (l : List ℕ) (at : ℕ) → xorOn (byteAt l at) l ≡ xorOf (take at l ++ drop (at + 1) l)
+sum-out : (l : List ℕ) (at : ℕ) → xorOn (byteAt l at) l ≡ xorOf (take at l ++ drop (at + 1) l)
 sum-out l at = rw add-one (taken-out 0 l at)
 
 -- ── the sum of a part
-pub part-sum : (s part : List ℕ) (at len : ℕ) (r : Bool) → at < len → part ≡ take len s → r ≡ eqb (byteAt part at) (xorOf (take at part ++ drop (at + 1) part))
-    → r ≡ eqb (byteAt s at) (xorOf (take at s ++ drop (at + 1) (take len s)))
-part-sum s part at len r h p e = e ∙ rw (p, getD-take len s at 0 h, take-take at len s (omega arith))
+module _ (s : List ℕ) (at len : ℕ) (h : at < len) where
+  part-byte : byteAt (take len s) at ≡ byteAt s at
+  part-byte = getD-take len s at 0 h
+
+  part-sum : xorOn (byteAt (take len s) at) (take len s) ≡ xorOf (take at s ++ drop (at + 1) (take len s))
+  part-sum = sum-out (take len s) at ∙ rw (take-take at len s (omega arith))
+
+-- a line list's sum: the byte that was found, and the one expected
+pub list-sum : (l whole : List ℕ) (len found expected : ℕ) → 3 < len → len ≡ byteAt l 0 → whole ≡ take len l → found ≡ byteAt whole 3 → expected ≡ xorOn found whole
+    → (found ≡ byteAt l 3) × (expected ≡ checksumOf l)
+unfolding checksumOf
+list-sum l whole len found expected h k w f e = (f ∙ rw (w, part-byte l 3 len h), e ∙ rw (f, w, ← k) (part-sum l 3 len h))
 
 eqb-swap : (a b : ℕ) → eqb a b ≡ eqb b a
 eqb-swap a b = by-test (eqb a b) (λ e. rw (eqb-true a b e)) (λ e. e ∙ sym (ne-eqb b a (λ f. eqb-false a b e (sym f))))
 
 -- an entry's sum is its last byte
-pub entry-sum : (text : List ℕ) → eqb (byteAt (take (byteAt text 0) text) (limit text)) (xorOf (take (limit text) (take (byteAt text 0) text) ++ drop (limit text + 1) (take (byteAt text 0) text))) ≡ xorGood text
+pub entry-sum : (text : List ℕ) → eqb (byteAt (take (byteAt text 0) text) (limit text)) (xorOn (byteAt (take (byteAt text 0) text) (limit text)) (take (byteAt text 0) text)) ≡ xorGood text
 unfolding xorOn xorGood limit
 entry-sum text = by-length (byteAt text 0) refl
   where
-    by-length : (n : ℕ) → byteAt text 0 ≡ n → eqb (byteAt (take n text) (n - 1)) (xorOf (take (n - 1) (take n text) ++ drop (n - 1 + 1) (take n text))) ≡ eqb (xorOf (take (n - 1) text)) (byteAt text (n - 1))
+    by-length : (n : ℕ) → byteAt text 0 ≡ n → eqb (byteAt (take n text) (n - 1)) (xorOn (byteAt (take n text) (n - 1)) (take n text)) ≡ eqb (xorOf (take (n - 1) text)) (byteAt text (n - 1))
     by-length zero e = rw e
     by-length (suc m) e =
         let g : suc m - 1 ≡ m = omega arith in
-        rw (g, part-sum text _ m (suc m) _ (omega arith) refl refl, drop-of-length-le (take (suc m) text) {i = m + 1} (rw length-take (omega arith)), append-nil)
+        rw (g, part-sum text m (suc m) (omega arith), part-byte text m (suc m) (omega arith), drop-of-length-le (take (suc m) text) {i = m + 1} (rw length-take (omega arith)), append-nil)
         (eqb-swap (byteAt text m) (xorOf (take m text)))

@@ -3,14 +3,13 @@
 ghost use mathlib.Core.Path.{_≡_};
 ghost use Prim.Native.Nat.{ℕ, _+_, _≤_, _<_};
 ghost use mathlib.Core.Bool.{_&&_};
-ghost use mathlib.Core.List.{_++_};
-ghost use lib.Dec.{eqb, leb};
-ghost use lib.ListN.{length, take, drop};
-ghost use Rattle.octets.specs.Bytes.{byteAt, wordAt, xorOf};
+ghost use lib.Dec.{leb};
+ghost use lib.ListN.{length};
+ghost use Rattle.octets.specs.Bytes.{byteAt, wordAt};
 ghost use Rattle.sequence.specs.Text.{limit, lengthGood, xorGood, headerOf, numberOf, sizeOf, sizeAt, noneThere, decoded, commandAt, isRunRaster};
 ghost use Rattle.sequence.specs.Starts.{among, starts, firstExposure, targetGood};
 ghost use Rattle.sequence.specs.Raster.{rasterAt, flagsGood};
-ghost use Rattle.sequence.specs.LineList.{listCard};
+ghost use Rattle.sequence.specs.LineList.{listCard, reasonAs, cardShown};
 use memory::Place;
 
 // What stands at a place of a text: a command with its operand, or none there, one of an unknown number, or one that does not fit.
@@ -88,10 +87,18 @@ pub enum Header {
     Bad(Fault),
 }
 
-// What is known of a line list.
+// What is known of a line list: it is good, or the first of its tests that fails, with the checksum expected.
 pub enum ListCard {
     Good,
-    Wrong,
+    WindowCount,
+    Length,
+    Checksum(u8),
+}
+
+// What is wrong with a line list, as numbers: which test, 0 for none, and the checksum expected.
+pub struct ReasonNumbers {
+    pub number: u8,
+    pub value: u8,
 }
 
 // A place as an index into a text.
@@ -133,20 +140,13 @@ pub fn length_good(text: &[u8]) -> bool
     len as usize <= text.len()
 }
 
-// Whether the byte at a place is the XOR of the others: begun with that byte, the XOR of all takes it out again.
-fn sum_good(s: &[u8], at: usize) -> bool
-    ensures { λ r. ⌜ r ≡ eqb (byteAt (now (s .entry)) at) (xorOf (take at (now (s .entry)) ++ drop (at + 1) (now (s .entry)))) ⌝ }
-{
-    let sum = octets::byte(s, at);
-    sum == octets::xor_on(sum, s)
-}
-
-// Whether the last byte is the XOR of all before it.
+// Whether the last byte is the XOR of all before it: begun with that byte, the XOR of all takes it out again.
 pub fn xor_good(text: &[u8]) -> bool
     ensures { λ r. ⌜ r ≡ xorGood (now (text .entry)) ⌝ }
 {
-    let len = octets::byte(text, 0) as usize;
-    sum_good(octets::part(text, 0, len), limit(text) as usize)
+    let entry = octets::part(text, 0, octets::byte(text, 0) as usize);
+    let sum = octets::byte(entry, limit(text) as usize);
+    sum == octets::xor_on(sum, entry)
 }
 
 // The test of an entry: length, XOR, repeats.
@@ -342,25 +342,48 @@ pub fn flags_good(science: u8) -> bool
     science / 32 % 2 + science / 16 % 2 + science / 8 % 2 + science / 4 % 2 <= 1
 }
 
-// A line list's card: windows, length, checksum.
+// A line list's card: window count, length, checksum, in that order; the sum is taken as that of an entry is.
 pub fn list_card(list: &[u8]) -> ListCard
     ensures { λ r. ⌜ r ≡ listCard (now (list .entry)) ⌝ }
 {
     let len = octets::byte(list, 0);
     let windows = octets::byte(list, 2);
     if windows < 1 {
-        return ListCard::Wrong;
+        return ListCard::WindowCount;
     }
     if 25 < windows {
-        return ListCard::Wrong;
+        return ListCard::WindowCount;
     }
     if len != 14 + 6 * windows {
-        return ListCard::Wrong;
+        return ListCard::Length;
     }
-    if sum_good(octets::part(list, 0, len as usize), 3) {
-        ListCard::Good
-    } else {
-        ListCard::Wrong
+    let whole = octets::part(list, 0, len as usize);
+    let found = octets::byte(whole, 3);
+    let expected = octets::xor_on(found, whole);
+    if found != expected {
+        return ListCard::Checksum(expected);
+    }
+    ListCard::Good
+}
+
+// A number and a value, put together.
+fn reason_as(number: u8, value: u8) -> ReasonNumbers
+    ensures { λ r. ⌜ r ≡ reasonAs number value ⌝ }
+{
+    ReasonNumbers { number, value }
+}
+
+impl ListCard {
+    // The card by number and value.
+    pub fn shown(self) -> ReasonNumbers
+        ensures { λ r. ⌜ r ≡ cardShown self ⌝ }
+    {
+        match self {
+            ListCard::Good => reason_as(0, 0),
+            ListCard::WindowCount => reason_as(1, 0),
+            ListCard::Length => reason_as(2, 0),
+            ListCard::Checksum(expected) => reason_as(3, expected),
+        }
     }
 }
 

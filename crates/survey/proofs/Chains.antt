@@ -4,32 +4,37 @@ use native.Mathlib.Nat.{le-of-suc-le-suc, not-suc-le-zero, add-zero, zero-add, a
 use native.Mathlib.Decide.{ℕ-discrete}
 use native.Mathlib.Omega.{arith}
 use mathlib.Core.Path.{_≡_, refl, sym, ap, ap₂, _∙_, subst}
-use mathlib.Core.Bool.{Bool, true, false, cond, _||_, true≢false}
+use mathlib.Core.Bool.{Bool, true, false, _||_, true≢false}
 use mathlib.Core.List.{List, [], _∷_, _++_, reverse, reverse-cons, append-nil}
 use lib.Dec.{eqb}
 use lib.ListN.{length, getD, set, take, replicate, length-set, length-append, length-reverse, getD-replicate}
 use lib.Seq.{getD-set-same, getD-set-other, set-at, append-snoc, take-all}
 use borrow.Author.Tests.{eq-eqb, ne-eqb, lt-ltb, le-ltb}
+use Rattle.octets.proofs.Bools.{either}
 use Rattle.memory.specs.declared.Format.{Format}
 use Rattle.memory.specs.Memory.{Fair, tablesWrong, entryOf}
 use Rattle.memory.proofs.Laws.{entry-short}
 use Rattle.sequence.specs.declared.Fault.{Fault}
+use Rattle.sequence.specs.declared.ListCard.{ListCard}
 use Rattle.sequence.specs.Starts.{among}
-use Rattle.sequence.specs.Env.{envOf}
+use Rattle.sequence.specs.Env.{Env, envOf, textOf}
 use Rattle.survey.specs.declared.Closing.{Closing}
 use Rattle.survey.specs.declared.Closing.the-variants.{Terminates, CallsOn}
 use Rattle.survey.specs.declared.Walked.{Walked}
 use Rattle.survey.specs.declared.Walked.the-variants.{Faulty, Closed}
 use Rattle.survey.specs.declared.Ending.{Ending}
 use Rattle.survey.specs.declared.Ending.the-variants.{Unlisted, Finishes, Returns, Faults}
+use Rattle.survey.specs.declared.Reason.{Reason}
+use Rattle.survey.specs.declared.Reason.the-variants.{None}
 use Rattle.survey.specs.declared.Chain.{Chain}
 use Rattle.survey.specs.declared.Checked.{Checked}
 use Rattle.survey.specs.declared.Report.{Report}
-use Rattle.survey.specs.Walk.{Finding, passes, faults, checkOne, findingOf}
+use Rattle.survey.specs.Walk.{Finding, passes, faults, reasonFor, checkOne, findingOf}
 use Rattle.survey.specs.Chain.{Told, told, total, front, onward, follow, chainOf, checkRows, checkOf}
 use Rattle.survey.specs.Report.{padded, reportOf, walkedOf}
-use Rattle.survey.specs.Held.{AtMost, unmarked, Marked, Free, Is, LowCall, joined, ahead, emptyChain, reported}
+use Rattle.survey.specs.Held.{AtMost, unmarked, Marked, Free, Is, LowCall, joined, ahead, emptyChain, reasoned, reported}
 use Rattle.survey.proofs.Totals.{Octets, part-octets}
+use Rattle.survey.proofs.Reasons.{Right, right-one}
 use Rattle.survey.proofs.Laws.{one-most, one-low}
 
 -- ── marks
@@ -95,14 +100,14 @@ total-join : (e : Ending) (a k s : ℕ) → total e a (total e k s) ≡ total e 
 total-join (Unlisted code) a k s = refl
 total-join Finishes a k s = sym (add-assoc a k s)
 total-join Returns a k s = sym (add-assoc a k s)
-total-join (Faults n f) a k s = refl
+total-join (Faults n f reason) a k s = refl
 
 -- the names so far and one sequence in front of the rest are the names with that sequence, and the rest
 joined-front : (names : List ℕ) (a b n k x : ℕ) (t : Told) → joined names a b (front n k x t) ≡ joined (n ∷ names) (a + k) (b + x) t
 joined-front names a b n k x t =
     rw (total-join (t .ending) a k, total-join (t .ending) b x, reverse-cons n names, append-snoc (reverse names) n (t .names))
 
--- what was found of sequence n, and where its closing command leads
+-- what was found of sequence n, and where its closing command leads; why: the reason of a fault
 abbrev stepsIn : Walked → ℕ
 stepsIn (Faulty f) = 0
 stepsIn (Closed p c k x) = k
@@ -111,25 +116,30 @@ abbrev exposuresOf : Walked → ℕ
 exposuresOf (Faulty f) = 0
 exposuresOf (Closed p c k x) = x
 
-abbrev leads : (ℕ → Told) → ℕ → Walked → Told
-leads go n (Faulty f) = told [] (Faults n f) 0 0
-leads go n (Closed p c k x) = ahead go c
+abbrev leads : (ℕ → Told) → ℕ → (Fault → Reason) → Walked → Told
+leads go n why (Faulty f) = told [] (Faults n f (why f)) 0 0
+leads go n why (Closed p c k x) = ahead go c
 
-onward-leads : (go : ℕ → Told) (n : ℕ) (found : Finding)
-    → onward go n found ≡ front n (stepsIn (walkedOf found)) (exposuresOf (walkedOf found)) (leads go n (walkedOf found))
+onward-leads : (cards : ℕ → ListCard) (text : List ℕ) (go : ℕ → Told) (n : ℕ) (found : Finding) → Right cards text found
+    → onward go n found ≡ front n (stepsIn (walkedOf found)) (exposuresOf (walkedOf found)) (leads go n (reasonFor cards text) (walkedOf found))
 unfolding onward
-onward-leads go n (passes k x is p Terminates) = rw (add-zero k, add-zero x)
-onward-leads go n (passes k x is p (CallsOn m)) = refl
-onward-leads go n (faults f) = refl
+onward-leads cards text go n (passes k x is p Terminates) r = rw (add-zero k, add-zero x)
+onward-leads cards text go n (passes k x is p (CallsOn m)) r = refl
+onward-leads cards text go n (faults f reason) r = rw (r .told)
 
 -- ── the report of a chain that ends here
 abbrev pub checked : Chain → Ending → Checked
 checked chain e = record { chain = chain; ending = e }
 
-end-said : (chain : Chain) (names : List ℕ) → Is chain names → (e : Ending)
-    → reported (checked chain e) ≡ reportOf (joined names (chain .steps) (chain .exposures) (told [] e 0 0))
-unfolding reported reportOf
-end-said chain names is e = rw (append-nil (reverse names), length-reverse names, is .list, is .count)
+module _ (E : Env) (seqs : List ℕ) where
+  end-said : (chain : Chain) (names : List ℕ) → Is chain names → (e : Ending)
+      → reported E seqs (checked chain e) ≡ reportOf (joined names (chain .steps) (chain .exposures) (told [] (reasoned E seqs e) 0 0))
+  unfolding reported reportOf
+  end-said chain names is e = rw (append-nil (reverse names), length-reverse names, is .list, is .count)
+
+  -- what is reported, given what stands ahead of the names so far
+  abbrev Reports : Chain → (List ℕ → Told) → Checked → Type 0
+  Reports chain rest r = (names : List ℕ) → Is chain names → reported E seqs r ≡ reportOf (joined names (chain .steps) (chain .exposures) (rest names))
 
 -- ── each way out of a closing command
 follow-back : (found : ℕ → Finding) (f : ℕ) (names : List ℕ) (m : ℕ) → among m names ≡ true → follow found f names m ≡ told [] Returns 0 0
@@ -137,22 +147,18 @@ unfolding follow
 follow-back found zero names m e = refl
 follow-back found (suc f) names m e = rw e
 
--- what is reported, given what stands ahead of the names so far
-abbrev Reports : Chain → (List ℕ → Told) → Checked → Type 0
-Reports chain rest r = (names : List ℕ) → Is chain names → reported r ≡ reportOf (joined names (chain .steps) (chain .exposures) (rest names))
-
-module _ (found : ℕ → Finding) (chain : Chain) (c : Closing) where
-  pub close-stop : c ≡ Terminates → Reports chain (λ names. ahead (follow found (unmarked (chain .marks)) names) c) (checked chain Finishes)
-  close-stop e names is = rw e (end-said chain names is Finishes)
+module _ (E : Env) (seqs : List ℕ) (chain : Chain) (c : Closing) where
+  pub close-stop : c ≡ Terminates → Reports E seqs chain (λ names. ahead (follow (findingOf E seqs) (unmarked (chain .marks)) names) c) (checked chain Finishes)
+  close-stop e names is = rw e (end-said E seqs chain names is Finishes)
 
   module _ (m : ℕ) (e : c ≡ CallsOn m) where
     pub close-back : m < 128 → getD (chain .marks) m false ≡ true
-        → Reports chain (λ names. ahead (follow found (unmarked (chain .marks)) names) c) (checked chain Returns)
+        → Reports E seqs chain (λ names. ahead (follow (findingOf E seqs) (unmarked (chain .marks)) names) c) (checked chain Returns)
     close-back l q names is =
-        rw (e, follow-back found (unmarked (chain .marks)) names m (sym (is .marks m l) ∙ q)) (end-said chain names is Returns)
+        rw (e, follow-back (findingOf E seqs) (unmarked (chain .marks)) names m (sym (is .marks m l) ∙ q)) (end-said E seqs chain names is Returns)
 
-    pub close-next : (r : Checked) → Reports chain (λ names. follow found (unmarked (chain .marks)) names m) r
-        → Reports chain (λ names. ahead (follow found (unmarked (chain .marks)) names) c) r
+    pub close-next : (r : Checked) → Reports E seqs chain (λ names. follow (findingOf E seqs) (unmarked (chain .marks)) names m) r
+        → Reports E seqs chain (λ names. ahead (follow (findingOf E seqs) (unmarked (chain .marks)) names) c) r
     close-next r h names is = rw e (h names is)
 
 -- ── each way out of a sequence
@@ -172,23 +178,26 @@ pub of-entry : (F : Format) (lists seqs : List ℕ) (n : ℕ) (w : Walked) (text
 of-entry F lists seqs n w text et ew = rw (et, take-all (F .size) (entryOf F seqs n) (entry-short F seqs n)) at ew
 
 module _ {F : Format} {lists seqs : List ℕ} {chain : Chain} {n : ℕ} {w : Walked} (v : Visit F lists seqs chain n w) where
+  abbrev E : Env
+  E = envOf F lists
+
   abbrev found : ℕ → Finding
-  found = findingOf (envOf F lists) seqs
+  found = findingOf E seqs
 
   turned : (names : List ℕ) → Is chain names → (a b : ℕ) → joined names a b (follow found (unmarked (chain .marks)) names n)
-      ≡ joined (n ∷ names) (a + stepsIn w) (b + exposuresOf w) (leads (follow found (left chain n) (n ∷ names)) n w)
+      ≡ joined (n ∷ names) (a + stepsIn w) (b + exposuresOf w) (leads (follow found (left chain n) (n ∷ names)) n (reasonFor (E .cards) (textOf E seqs n)) w)
   unfolding follow
   turned names is a b =
       let go : ℕ → Told = follow found (left chain n) (n ∷ names) in
       let new : among n names ≡ false = sym (is .marks n (v .free .low)) ∙ v .free .new in
-      rw (one-fewer chain n (v .free), new, onward-leads go n (found n), ← v .found)
-      (joined-front names a b n (stepsIn w) (exposuresOf w) (leads go n w))
+      rw (one-fewer chain n (v .free), new, onward-leads (E .cards) (textOf E seqs n) go n (found n) (right-one E (textOf E seqs n)), ← v .found)
+      (joined-front names a b n (stepsIn w) (exposuresOf w) (leads go n (reasonFor (E .cards) (textOf E seqs n)) w))
 
   pub seq-fault : (f : Fault) → w ≡ Faulty f
-      → Reports chain (λ names. follow found (unmarked (chain .marks)) names n) (checked (listedWith chain n) (Faults n f))
+      → Reports E seqs chain (λ names. follow found (unmarked (chain .marks)) names n) (checked (listedWith chain n) (Faults n f None))
   seq-fault f e names is =
       rw (turned names is (chain .steps) (chain .exposures), e)
-      (end-said (listedWith chain n) (n ∷ names) (is-entered chain n (v .free) names is) (Faults n f))
+      (end-said E seqs (listedWith chain n) (n ∷ names) (is-entered chain n (v .free) names is) (Faults n f None))
 
   module _ (p k x : ℕ) (c : Closing) (e : w ≡ Closed p c k x) where
     most : (k ≤ 2 ^ 54) × (x ≤ 2 ^ 54)
@@ -215,8 +224,8 @@ module _ {F : Format} {lists seqs : List ℕ} {chain : Chain} {n : ℕ} {w : Wal
     pub next-fewer : left chain n + left chain n + 1 < unmarked (chain .marks) + unmarked (chain .marks)
     next-fewer = omega (arith, one-fewer chain n (v .free))
 
-    pub seq-next : (r : Checked) → Reports (added (listedWith chain n) k x) (λ names. ahead (follow found (left chain n) names) c) r
-        → Reports chain (λ names. follow found (unmarked (chain .marks)) names n) r
+    pub seq-next : (r : Checked) → Reports E seqs (added (listedWith chain n) k x) (λ names. ahead (follow found (left chain n) names) c) r
+        → Reports E seqs chain (λ names. follow found (unmarked (chain .marks)) names n) r
     seq-next r h names is =
         let i = is-entered chain n (v .free) names is in
         rw (turned names is (chain .steps) (chain .exposures), e)
@@ -241,37 +250,34 @@ free-start start n e l = rw e (record { kept = kept-start; low = l; new = marks-
 total-none : (e : Ending) (k s : ℕ) → total e 0 (total e k s) ≡ total e k s
 total-none e k s = total-join e 0 k s ∙ ap (λ (a : ℕ). total e a s) (zero-add k)
 
-joined-none : (n k x : ℕ) (t : Told) → joined [] 0 0 (front n k x t) ≡ front n k x t
-joined-none n k x t = rw (total-none (t .ending) k, total-none (t .ending) x)
-
-onward-whole : (go : ℕ → Told) (n : ℕ) (found : Finding) (t : Bool)
-    → joined [] 0 0 (cond t (told [] Returns 0 0) (onward go n found)) ≡ cond t (told [] Returns 0 0) (onward go n found)
-onward-whole go n found true = refl
-onward-whole go n found false =
-    let w = walkedOf found in
-    rw (onward-leads go n found) (joined-none n (stepsIn w) (exposuresOf w) (leads go n w))
+onward-whole : (go : ℕ → Told) (n : ℕ) (found : Finding) → joined [] 0 0 (onward go n found) ≡ onward go n found
+unfolding onward
+onward-whole go n (passes k x is p Terminates) = rw (zero-add k, zero-add x)
+onward-whole go n (passes k x is p (CallsOn m)) = rw (total-none (go m .ending) k, total-none (go m .ending) x)
+onward-whole go n (faults f reason) = refl
 
 follow-whole : (found : ℕ → Finding) (f : ℕ) (names : List ℕ) (n : ℕ) → joined [] 0 0 (follow found f names n) ≡ follow found f names n
 unfolding follow
 follow-whole found zero names n = refl
 follow-whole found (suc f) names n =
-    onward-whole (λ m. follow found f (n ∷ names) m) n (found n) (among n names)
+    let go : ℕ → Told = λ m. follow found f (n ∷ names) m in
+    either (λ (t : Told). joined [] 0 0 t ≡ t) (among n names) (told [] Returns 0 0) (onward go n (found n)) refl (onward-whole go n (found n))
 
 module _ (F : Format) (seqs lists : List ℕ) (n : ℕ) (start : Chain) (es : start ≡ emptyChain) (wrong : Bool) (ew : wrong ≡ tablesWrong seqs lists) (r : Report) where
-  nothing-said : (code : ℕ) → reported (checked start (Unlisted code)) ≡ reportOf (told [] (Unlisted code) 0 0)
+  nothing-said : (code : ℕ) → reported (envOf F lists) seqs (checked start (Unlisted code)) ≡ reportOf (told [] (Unlisted code) 0 0)
   unfolding reported reportOf padded
   nothing-said code = rw es
 
-  pub check-wrong : wrong ≡ true → r ≡ reported (checked start (Unlisted 16)) → r ≡ reportOf (checkOf F seqs lists n)
+  pub check-wrong : wrong ≡ true → r ≡ reported (envOf F lists) seqs (checked start (Unlisted 16)) → r ≡ reportOf (checkOf F seqs lists n)
   unfolding checkOf checkRows
   check-wrong t h = rw (← ew, t) (h ∙ nothing-said 16)
 
-  pub check-high : wrong ≡ false → F .last < n → r ≡ reported (checked start (Unlisted 7)) → r ≡ reportOf (checkOf F seqs lists n)
+  pub check-high : wrong ≡ false → F .last < n → r ≡ reported (envOf F lists) seqs (checked start (Unlisted 7)) → r ≡ reportOf (checkOf F seqs lists n)
   unfolding checkOf checkRows
   check-high t l h = rw (← ew, t, lt-ltb (F .last) n l) (h ∙ nothing-said 7)
 
   pub check-runs : F .last ≡ 127 → wrong ≡ false → n ≤ F .last → (d : Checked)
-      → Reports start (λ names. follow (findingOf (envOf F lists) seqs) (unmarked (start .marks)) names n) d → r ≡ reported d → r ≡ reportOf (checkOf F seqs lists n)
+      → Reports (envOf F lists) seqs start (λ names. follow (findingOf (envOf F lists) seqs) (unmarked (start .marks)) names n) d → r ≡ reported (envOf F lists) seqs d → r ≡ reportOf (checkOf F seqs lists n)
   unfolding checkOf checkRows chainOf unmarked
   check-runs full t l d h er =
       let i : Is start [] = rw es is-start in

@@ -22,13 +22,14 @@ use Rattle.sequence.specs.Text.{numberOf, sizeOf, sizeAt, headerOf, commandAt, 
 use Rattle.sequence.specs.Starts.{among, starts, startsOf, rastersAmong}
 use Rattle.sequence.specs.Raster.{rasterAt}
 use Rattle.sequence.specs.declared.ListCard.{ListCard}
-use Rattle.sequence.specs.LineList.{listCard, isBad}
+use Rattle.sequence.specs.LineList.{listCard, cardShown}
 use Rattle.sequence.specs.Env.{cardsOf, envOf}
 use Rattle.runner.specs.declared.Opened.{Opened}
 use Rattle.runner.specs.declared.Opened.the-variants.{Shut}
 use Rattle.runner.specs.declared.Act.{Act}
 use Rattle.runner.specs.declared.Act.the-variants.{Refused, Opens, Exposes, Loops, Waits, Calls, Ends}
 use Rattle.runner.specs.Judge.{repeatBegun, pathRows, flagRows, rasterRows, runRows, judged, judge}
+use Rattle.runner.proofs.Exactly.{seven}
 use Rattle.survey.specs.declared.Closing.the-variants.{Terminates, CallsOn}
 use Rattle.survey.specs.Walk.{Finding, passes, faults, closed, paused, oneMore, walked, walk, rounds, checkedBy, checkOne, findingOf}
 use Rattle.survey.specs.Chain.{Told, front, onward, follow, chainOf, checkBy, checkRows, checkOf}
@@ -49,8 +50,8 @@ module _ (cards cards′ : ℕ → ListCard) where
       rest k = cond (eqb (raster .loops) 0) 11 (cond (eqb (raster .repeats) 0) 11 (cond (eqb (raster .exposures) 0) 5 (cond (ltb 8 (raster .exposures)) 5 k)))
 
       named : (b : Bool) → ltb 47 (raster .list) ≡ b
-          → cond b 6 (cond (isBad (cards′ (raster .list))) 7 (firstCode (pathRows raster begun ++ flagRows raster)))
-          ≡ cond b 6 (cond (isBad (cards (raster .list))) 7 (firstCode (pathRows raster begun ++ flagRows raster)))
+          → cond b 6 (cond (ltb 0 (cardShown (cards′ (raster .list)) .number)) 7 (firstCode (pathRows raster begun ++ flagRows raster)))
+          ≡ cond b 6 (cond (ltb 0 (cardShown (cards (raster .list)) .number)) 7 (firstCode (pathRows raster begun ++ flagRows raster)))
       named true e = refl
       named false e = rw (h (ltb-false 47 (raster .list) e))
 
@@ -89,19 +90,19 @@ unfolding judge sizeAt
 none-judge cards text p o e = none-judged cards text p o (commandAt text p) e
 
 -- ── the walk of a text reads the line lists of the run rasters at its starts
-walked-same : (text : List ℕ) (go go′ : ℕ → Opened → Finding) (p : ℕ)
-    → ((o : Opened) → go′ (p + sizeAt text p) o ≡ go (p + sizeAt text p) o)
-    → (o : Opened) (a : Act) → walked text go′ p o a ≡ walked text go p o a
-unfolding walked
-walked-same text go go′ p h o (Refused code) = refl
-walked-same text go go′ p h o Opens = h _
-walked-same text go go′ p h o (Exposes r) = h (oneMore o)
-walked-same text go go′ p h o (Loops t) = ap (closed text p t o) (h Shut)
-walked-same text go go′ p h o Waits = ap (paused text p o) (h o)
-walked-same text go go′ p h o (Calls m) = refl
-walked-same text go go′ p h o Ends = refl
-
 module _ (cards cards′ : ℕ → ListCard) (text : List ℕ) where
+  -- an act comes to the same, of a 7 with the card of the line list that is named there
+  walked-same : (go go′ : ℕ → Opened → Finding) (p : ℕ) → ((o : Opened) → go′ (p + sizeAt text p) o ≡ go (p + sizeAt text p) o)
+      → (o : Opened) (a : Act) → (a ≡ Refused 7 → cards′ (rasterAt text p .list) ≡ cards (rasterAt text p .list)) → walked cards′ text go′ p o a ≡ walked cards text go p o a
+  unfolding walked
+  walked-same go go′ p h o (Refused code) s = by-test (eqb code 7) (λ e. rw (s (ap Refused (eqb-true code 7 e)))) (λ e. rw e)
+  walked-same go go′ p h o Opens s = h _
+  walked-same go go′ p h o (Exposes r) s = h (oneMore o)
+  walked-same go go′ p h o (Loops t) s = ap (closed text p t o) (h Shut)
+  walked-same go go′ p h o Waits s = ap (paused text p o) (h o)
+  walked-same go go′ p h o (Calls m) s = refl
+  walked-same go go′ p h o Ends s = refl
+
   -- a start is the first one, or one of those after it
   start-here : (f p : ℕ) → eqb (sizeAt text p) 0 ≡ false → among p (starts text (suc f) p) ≡ true
   unfolding among starts
@@ -118,8 +119,11 @@ module _ (cards cards′ : ℕ → ListCard) (text : List ℕ) where
   walk-same (suc f) p h o =
       by-test (eqb (sizeAt text p) 0)
       (λ e. let z = eqb-true (sizeAt text p) 0 e in rw (none-judge cards text p o z, none-judge cards′ text p o z))
-      (λ e. rw (same-judge cards cards′ text p (h p (start-here f p e)) o)
-      (walked-same text _ _ p (walk-same f (p + sizeAt text p) (λ q s. h q (start-later f p q e s))) o (judge cards text p o)))
+      (λ e.
+      let here = h p (start-here f p e) in
+      rw (same-judge cards cards′ text p here o)
+      (walked-same _ _ p (walk-same f (p + sizeAt text p) (λ q s. h q (start-later f p q e s))) o (judge cards text p o)
+      (λ s. let (run, bad, low) = seven cards text p o s in here run low)))
 
   -- a run raster among some places names one of their line lists
   names : (p : ℕ) (ps : List ℕ) → among p ps ≡ true → commandAt text p ≡ RunRaster → among (rasterAt text p .list) (listsNamed text (rastersAmong text ps)) ≡ true
@@ -161,13 +165,13 @@ module _ (found found′ : ℕ → Finding) where
     unfolding onward
     here-same (passes k x is p Terminates) r = first n [] r
     here-same (passes k x is p (CallsOn m)) r = first n (go m .names) r
-    here-same (faults f) r = first n [] r
+    here-same (faults f reason) r = first n [] r
 
     onward-same : (one : Finding) → Same found found′ (onward go n one .names) → onward go′ n one ≡ onward go n one
     unfolding onward
     onward-same (passes k x is p Terminates) r = refl
     onward-same (passes k x is p (CallsOn m)) r = ap (front n k x) (ih m (later n (go m .names) r))
-    onward-same (faults f) r = refl
+    onward-same (faults f reason) r = refl
 
     turn-same : (t : Bool) (back : Told) → Same found found′ (cond t back (onward go n (found n)) .names)
         → cond t back (onward go′ n (found′ n)) ≡ cond t back (onward go n (found n))

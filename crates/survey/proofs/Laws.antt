@@ -37,6 +37,7 @@ use Rattle.survey.specs.declared.Item.{Item}
 use Rattle.survey.specs.declared.Item.the-variants.{Pause}
 use Rattle.survey.specs.declared.Closing.{Closing}
 use Rattle.survey.specs.declared.Closing.the-variants.{Terminates, CallsOn}
+use Rattle.survey.specs.declared.Reason.the-variants.{None}
 use Rattle.survey.specs.declared.Walked.{Walked}
 use Rattle.survey.specs.declared.Walked.the-variants.{Faulty, Closed}
 use Rattle.survey.specs.declared.Round.{Round}
@@ -116,11 +117,11 @@ atop-atop a b k x (Closed p c steps exposures) = rw (add-assoc a k steps, add-as
 walked-front : (text : List ℕ) (i : Item) (a b : ℕ) (found : Finding)
     → atop a b (walkedOf (inFront text i found)) ≡ atop (a + itemSteps text i) (b + itemExposures text i) (walkedOf found)
 walked-front text i a b (passes k x is p c) = atop-atop a b (itemSteps text i) (itemExposures text i) (Closed p c k x)
-walked-front text i a b (faults f) = refl
+walked-front text i a b (faults f reason) = refl
 
 most-of : (most : ℕ) (found : Finding) → Small most found → AtMost most (walkedOf found)
 most-of most (passes k x is p c) s = s
-most-of most (faults f) s = tt
+most-of most (faults f reason) s = tt
 
 -- ── where the walk stands with so many commands left to look at
 -- what is found from here on, atop of the sums so far
@@ -219,7 +220,7 @@ comes cards text f at r Ends = Closed (r .place) Terminates (r .steps + 1) (r .e
 
 module _ (cards : ℕ → ListCard) (text : List ℕ) (f p k x : ℕ) where
   comes-so : (o : Opened) (a : Act) → Sized text p o a → Reached text p o
-      → atop k x (walkedOf (walked text (λ p′ o′. walk cards text f p′ o′) p o a)) ≡ comes cards text f (placeAt p) (round p o k x) a
+      → atop k x (walkedOf (walked cards text (λ p′ o′. walk cards text f p′ o′) p o a)) ≡ comes cards text f (placeAt p) (round p o k x) a
   unfolding walked
   comes-so o (Refused code) s h = refl
   comes-so o Opens s h = rw (s, add-zero k, add-zero x)
@@ -314,7 +315,7 @@ module _ {F : Format} {cards : ℕ → ListCard} {text : List ℕ} {left : ℕ} 
         rw (t .here .1) (sym (comes-so cards text (left - 1) (r .place) (r .steps) (r .exposures) (r .held) x told (t .going .reached)) ∙ by left (t .some) (t .going .same))
       where
         by : (f : ℕ) → 0 < f → found cards text f r ≡ whole cards text
-            → atop (r .steps) (r .exposures) (walkedOf (walked text (λ p′ o′. walk cards text (f - 1) p′ o′) (r .place) (r .held) x)) ≡ whole cards text
+            → atop (r .steps) (r .exposures) (walkedOf (walked cards text (λ p′ o′. walk cards text (f - 1) p′ o′) (r .place) (r .held) x)) ≡ whole cards text
         by zero z h = absurd (omega arith)
         by (suc f) z h = let d : suc f - 1 ≡ f = omega arith in rw (d, ← is) h
 
@@ -334,17 +335,17 @@ LowWalked (Closed p c k x) = LowCall c
 low-walked : (last : ℕ) → last ≤ 127 → (found : Finding) → Low last found → LowWalked (walkedOf found)
 low-walked last l (passes k x is p Terminates) w = tt
 low-walked last l (passes k x is p (CallsOn m)) w = omega arith
-low-walked last l (faults f) w = tt
+low-walked last l (faults f reason) w = tt
 
 module _ (E : Env) where
   walked-rounds : (q : ℕ) (found : Finding) → walkedOf (rounds (E .format) q found) ≡ allRounds (E .format) q (walkedOf found)
   walked-rounds q (passes k x is p Terminates) = refl
   walked-rounds q (passes k x is p (CallsOn m)) = by (ltb (E .format .last) m)
     where
-      by : (t : Bool) → walkedOf (cond t (faults (fault 4 p)) (passes (1 + q * k) (q * x) is p (CallsOn m))) ≡ cond t (Faulty (fault 4 p)) (Closed p (CallsOn m) (1 + q * k) (q * x))
+      by : (t : Bool) → walkedOf (cond t (faults (fault 4 p) None) (passes (1 + q * k) (q * x) is p (CallsOn m))) ≡ cond t (Faulty (fault 4 p)) (Closed p (CallsOn m) (1 + q * k) (q * x))
       by true = refl
       by false = refl
-  walked-rounds q (faults f) = refl
+  walked-rounds q (faults f reason) = refl
 
   -- its text is cut to an entry's size
   module _ (fair : Fair (E .format)) (full text : List ℕ) (cut : text ≡ take (E .format .size) full) where

@@ -27,12 +27,12 @@ use Rattle.survey.specs.Chain.{Told, told, onward, follow, chainOf, chec
 abbrev pub Low : ℕ → Finding → Type 0
 Low last (passes k x is p Terminates) = Unit {0}
 Low last (passes k x is p (CallsOn m)) = m ≤ last
-Low last (faults f) = Unit {0}
+Low last (faults f reason) = Unit {0}
 
 low-rounds : (F : Format) (q : ℕ) (found : Finding) → Low (F .last) (rounds F q found)
 low-rounds F q (passes k x is p Terminates) = tt
 low-rounds F q (passes k x is p (CallsOn m)) = choice (Low (F .last)) (ltb (F .last) m) _ _ (λ _. tt) (λ e. ltb-false (F .last) m e)
-low-rounds F q (faults f) = tt
+low-rounds F q (faults f reason) = tt
 
 low-by : (E : Env) (text : List ℕ) (h : Header) → Low (E .format .last) (checkedBy E text h)
 low-by E text (Repeats q) = low-rounds (E .format) q (walk (E .cards) text (length text) 4 _)
@@ -56,7 +56,7 @@ module _ (F : Format) where
   unfolding onward
   chained-onward f n before go l e ih (passes k x is p Terminates) w = (l, e, tt)
   chained-onward f n before go l e ih (passes k x is p (CallsOn m)) w = (l, e, ih m w)
-  chained-onward f n before go l e ih (faults g) w = (l, e, tt)
+  chained-onward f n before go l e ih (faults g reason) w = (l, e, tt)
 
   module _ (found : ℕ → Finding) (lows : (n : ℕ) → Low (F .last) (found n)) where
     chained : (f n : ℕ) (before : List ℕ) → n ≤ F .last → Chained (F .last) f before (follow found f before n .names)

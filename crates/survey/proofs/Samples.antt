@@ -9,7 +9,7 @@ use Rattle.memory.specs.Memory.{flight, tablesWrong, entryOf}
 use Rattle.sequence.specs.Text.{limit, lengthGood, xorGood, headerRows, headerOf, sizeOf, decoded, noneThere, commandAt, sizeAt}
 use Rattle.sequence.specs.Starts.{starts, startsOf, among, exposesBetween, firstExposure, targetGood}
 use Rattle.sequence.specs.Raster.{rasterAt, flagsGood, somePast}
-use Rattle.sequence.specs.LineList.{listCard}
+use Rattle.sequence.specs.LineList.{checksumOf, listCard}
 use Rattle.sequence.specs.Env.{envOf}
 use Rattle.sequence.proofs.SampleTables.{seqs, lists, lineList, theRaster}
 use Rattle.runner.specs.Judge.{pathRows, rasterRows, runRows, exposeRows, loopRows, closeRows, judged, judge}
@@ -31,7 +31,7 @@ checked n sequence list = toldNumbers (checkOf flight (seqs sequence) (lists lis
 -- where the exposures of one round of sequence 0 are made
 abbrev found : List ℕ → Finding → List ℕ
 found text (passes k x is p c) = positionsOf text is
-found text (faults f) = []
+found text (faults f reason) = []
 
 abbrev exposed : List ℕ → List ℕ → List ℕ
 exposed sequence list = found (entryOf flight (seqs sequence) 0) (findingOf (envOf flight (lists list)) (seqs sequence) 0)
@@ -66,5 +66,5 @@ samples =
     ∷ []
 
 pub samples-right : allRight samples ≡ true
-unfolding xorOn tablesWrong limit lengthGood xorGood headerRows headerOf sizeOf decoded noneThere commandAt sizeAt starts startsOf among exposesBetween firstExposure targetGood rasterAt flagsGood somePast listCard pathRows rasterRows runRows exposeRows loopRows closeRows judged judge walked walk checkOne onward follow chainOf checkRows checkOf
+unfolding xorOn tablesWrong limit lengthGood xorGood headerRows headerOf sizeOf decoded noneThere commandAt sizeAt starts startsOf among exposesBetween firstExposure targetGood rasterAt flagsGood somePast checksumOf listCard pathRows rasterRows runRows exposeRows loopRows closeRows judged judge walked walk checkOne onward follow chainOf checkRows checkOf
 samples-right = refl

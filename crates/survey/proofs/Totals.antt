@@ -3,7 +3,7 @@
 use Prim.Native.Nat.{ℕ, zero, suc, _+_, _*_, _-_, _≤_, _<_, _^_, zero-le}
 use native.Mathlib.Nat.{mul-le-mul, le-refl, suc-mul}
 use native.Mathlib.Omega.{arith}
-use mathlib.Core.Path.{_≡_, refl}
+use mathlib.Core.Path.{refl}
 use mathlib.Core.List.{List, [], _∷_}
 use lib.Dec.{ltb, eqb}
 use lib.ListN.{length, take, drop, length-take, List·getD-eq-default}
@@ -89,18 +89,18 @@ module _ (raster : RasterWords) (n : Narrow raster) where
 -- steps and exposures of at most these
 abbrev pub Brings : ℕ → ℕ → Finding → Type 0
 Brings a b (passes k x is p c) = (k ≤ a) × (x ≤ b)
-Brings a b (faults g) = Unit {0}
+Brings a b (faults g reason) = Unit {0}
 
 abbrev pub Small : ℕ → Finding → Type 0
 Small most found = Brings most most found
 
 pub small-more : {a b : ℕ} → a ≤ b → (found : Finding) → Small a found → Small b found
 small-more l (passes k x is p c) s = (omega arith, omega arith)
-small-more l (faults g) s = tt
+small-more l (faults g reason) s = tt
 
 small-front : (text : List ℕ) (i : Item) (a b : ℕ) → itemSteps text i + a ≤ b → itemExposures text i + a ≤ b → (found : Finding) → Small a found → Small b (inFront text i found)
 small-front text i a b h g (passes k x is p c) s = (omega arith, omega arith)
-small-front text i a b h g (faults e) s = tt
+small-front text i a b h g (faults e reason) s = tt
 
 module _ (cards : ℕ → ListCard) (text : List ℕ) (oct : Octets text) (short : length text ≤ 511) where
   module _ (f : ℕ) (go : ℕ → Opened → Finding) (ih : (p : ℕ) (o : Opened) → Small (f * 2 ^ 37) (go p o)) where
@@ -121,7 +121,7 @@ module _ (cards : ℕ → ListCard) (text : List ℕ) (oct : Octets text) (short
     small-paused p Shut found s = small-front text (Pause p) (f * 2 ^ 37) (suc f * 2 ^ 37) (omega arith) (omega arith) found s
     small-paused p (Open r c left) found s = more found s
 
-    small-walked : (p : ℕ) (o : Opened) (a : Act) → Small (suc f * 2 ^ 37) (walked text go p o a)
+    small-walked : (p : ℕ) (o : Opened) (a : Act) → Small (suc f * 2 ^ 37) (walked cards text go p o a)
     unfolding walked
     small-walked p o (Refused code) = tt
     small-walked p o Opens = more (go _ _) (ih (p + sizeAt text p) (Open (placeAt p) 0 (rasterAt text p .repeats)))
@@ -145,7 +145,7 @@ small-rounds F q l (passes k x is p Terminates) s = let m = rounds-most q l x (s
 small-rounds F q l (passes k x is p (CallsOn m)) s =
     let w = rounds-most q l x (s .1) in
     choice (Small (2 ^ 54)) (ltb (F .last) m) _ _ (λ _. tt) (λ _. (rounds-most q l k (s .0), omega arith))
-small-rounds F q l (faults g) s = tt
+small-rounds F q l (faults g reason) s = tt
 
 -- a sequence's repeats are a byte
 abbrev FewRounds : Header → Type 0
@@ -176,7 +176,7 @@ total-most : (e : Ending) (a b : ℕ) → total e a b ≤ a + b
 total-most (Unlisted code) a b = zero-le
 total-most Finishes a b = le-refl (a + b)
 total-most Returns a b = le-refl (a + b)
-total-most (Faults n f) a b = zero-le
+total-most (Faults n f reason) a b = zero-le
 
 module _ (a b : ℕ) where
   within-onward : (f n : ℕ) (go : ℕ → Told) → ((m : ℕ) → Within a b f (go m)) → (found : Finding) → Brings a b found
@@ -187,7 +187,7 @@ module _ (a b : ℕ) where
       let t = go m in
       let w = ih m in
       (omega (arith, total-most (t .ending) k (t .steps), suc-mul f a), omega (arith, total-most (t .ending) x (t .exposures), suc-mul f b))
-  within-onward f n go ih (faults g) s = (zero-le, zero-le)
+  within-onward f n go ih (faults g reason) s = (zero-le, zero-le)
 
   module _ (found : ℕ → Finding) (one : (n : ℕ) → Brings a b (found n)) where
     within-follow : (f : ℕ) (names : List ℕ) (n : ℕ) → Within a b f (follow found f names n)

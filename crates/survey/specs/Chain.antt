@@ -1,6 +1,6 @@
 -- The table check: each sequence's check, then that of the sequence it calls, until one ends or is listed already.
 use Prim.Native.Nat.{ℕ, zero, suc, _+_}
-use mathlib.Core.Bool.{Bool, true, false, cond, _||_}
+use mathlib.Core.Bool.{cond}
 use mathlib.Core.List.{List, [], _∷_}
 use lib.Dec.{ltb, eqb}
 use Rattle.octets.specs.Rows.{Row, row, firstCode}
@@ -8,7 +8,6 @@ use Rattle.memory.specs.declared.Format.{Format}
 use Rattle.memory.specs.Memory.{tablesWrong}
 use Rattle.sequence.specs.Starts.{among}
 use Rattle.sequence.specs.Env.{envOf}
-use Rattle.survey.specs.declared.Closing.{Closing}
 use Rattle.survey.specs.declared.Closing.the-variants.{Terminates, CallsOn}
 use Rattle.survey.specs.declared.Ending.{Ending}
 use Rattle.survey.specs.declared.Ending.the-variants.{Unlisted, Finishes, Returns, Faults}
@@ -29,7 +28,7 @@ abbrev pub total : Ending → ℕ → ℕ → ℕ
 total (Unlisted code) a b = 0
 total Finishes a b = a + b
 total Returns a b = a + b
-total (Faults n f) a b = 0
+total (Faults n f reason) a b = 0
 
 -- sequence n, with its steps and exposures, in front of the rest of the chain
 abbrev pub front : ℕ → ℕ → ℕ → Told → Told
@@ -37,7 +36,7 @@ front n k x t = told (n ∷ t .names) (t .ending) (total (t .ending) k (t .steps
 
 -- "follows the call, and ends at terminate or at a sequence already listed"
 unfoldable pub onward : (ℕ → Told) → ℕ → Finding → Told
-onward go n (faults f) = told (n ∷ []) (Faults n f) 0 0
+onward go n (faults f reason) = told (n ∷ []) (Faults n f reason) 0 0
 onward go n (passes k x is p Terminates) = told (n ∷ []) Finishes k x
 onward go n (passes k x is p (CallsOn m)) = front n k x (go m)
 

@@ -9,6 +9,7 @@ use Rattle.memory.specs.declared.Format.{Format}
 use Rattle.sequence.specs.declared.Command.the-variants.{LoopBack}
 use Rattle.sequence.specs.Text.{rowOf, fault, sizeAt}
 use Rattle.sequence.specs.Starts.{among}
+use Rattle.sequence.specs.Env.{Env, textOf}
 use Rattle.runner.specs.declared.Opened.{Opened}
 use Rattle.runner.specs.declared.Opened.the-variants.{Shut, Open}
 use Rattle.survey.specs.declared.Item.{Item}
@@ -17,12 +18,14 @@ use Rattle.survey.specs.declared.Closing.{Closing}
 use Rattle.survey.specs.declared.Closing.the-variants.{Terminates, CallsOn}
 use Rattle.survey.specs.declared.Walked.{Walked}
 use Rattle.survey.specs.declared.Walked.the-variants.{Faulty, Closed}
-use Rattle.survey.specs.declared.Ending.the-variants.{Finishes}
+use Rattle.survey.specs.declared.Ending.{Ending}
+use Rattle.survey.specs.declared.Ending.the-variants.{Unlisted, Finishes, Returns, Faults}
 use Rattle.survey.specs.declared.Round.{Round}
 use Rattle.survey.specs.declared.Chain.{Chain}
 use Rattle.survey.specs.declared.Checked.{Checked}
 use Rattle.survey.specs.declared.Report.{Report}
 use Rattle.survey.specs.Items.{itemSteps, itemExposures}
+use Rattle.survey.specs.Walk.{reasonFor}
 use Rattle.survey.specs.Chain.{Told, told, total}
 use Rattle.survey.specs.Report.{padded}
 
@@ -118,13 +121,20 @@ ahead go (CallsOn m) = go m
 abbrev pub emptyChain : Chain
 emptyChain = record { listed = replicate 128 0; marks = replicate 128 false; count = 0; steps = 0; exposures = 0 }
 
+-- an ending as the chain leaves it, with the reason of its fault
+abbrev pub reasoned : Env → List ℕ → Ending → Ending
+reasoned E seqs (Unlisted code) = Unlisted code
+reasoned E seqs Finishes = Finishes
+reasoned E seqs Returns = Returns
+reasoned E seqs (Faults n f r) = Faults n f (reasonFor (E .cards) (textOf E seqs n) f)
+
 -- what is reported of a chain and its ending
-unfoldable pub reported : Checked → Report
-reported c =
+unfoldable pub reported : Env → List ℕ → Checked → Report
+reported E seqs c =
     record {
-      ending = c .ending;
+      ending = reasoned E seqs (c .ending);
       listed = c .chain .listed;
       count = c .chain .count;
-      steps = total (c .ending) (c .chain .steps) 0;
-      exposures = total (c .ending) (c .chain .exposures) 0;
+      steps = total (reasoned E seqs (c .ending)) (c .chain .steps) 0;
+      exposures = total (reasoned E seqs (c .ending)) (c .chain .exposures) 0;
     }

@@ -1,9 +1,13 @@
 -- The check's answer as the code holds it: the chain in an array of 128 numbers, and the paper's number and values for each ending.
 use Prim.Native.Nat.{ℕ, _-_}
-use mathlib.Core.List.{List, [], _∷_, _++_}
+use mathlib.Core.List.{List, _++_}
 use lib.ListN.{length, replicate}
+use Rattle.sequence.specs.declared.ReasonNumbers.{ReasonNumbers}
+use Rattle.sequence.specs.LineList.{reasonAs, cardShown}
 use Rattle.survey.specs.declared.Ending.{Ending}
 use Rattle.survey.specs.declared.Ending.the-variants.{Unlisted, Finishes, Returns, Faults}
+use Rattle.survey.specs.declared.Reason.{Reason}
+use Rattle.survey.specs.declared.Reason.the-variants.{None, OfList}
 use Rattle.survey.specs.declared.Walked.{Walked}
 use Rattle.survey.specs.declared.Walked.the-variants.{Faulty, Closed}
 use Rattle.survey.specs.declared.Report.{Report}
@@ -24,7 +28,18 @@ abbrev pub endingShown : Ending → EndingShown
 endingShown (Unlisted code) = endingAs 0 code 0 0
 endingShown Finishes = endingAs 1 0 0 0
 endingShown Returns = endingAs 2 0 0 0
-endingShown (Faults n f) = endingAs 3 (f .code) n (f .place)
+endingShown (Faults n f reason) = endingAs 3 (f .code) n (f .place)
+
+-- a fault's reason, none where there is no fault; and its number and value: 0 none, then those of the line list test
+abbrev pub reasonOf : Ending → Reason
+reasonOf (Unlisted code) = None
+reasonOf Finishes = None
+reasonOf Returns = None
+reasonOf (Faults n f reason) = reason
+
+abbrev pub reasonShown : Reason → ReasonNumbers
+reasonShown None = reasonAs 0 0
+reasonShown (OfList card) = cardShown card
 
 -- the names, and zeros after them
 unfoldable pub padded : List ℕ → List ℕ
@@ -33,7 +48,7 @@ padded names = names ++ replicate (128 - length names) 0
 unfoldable pub reportOf : Told → Report
 reportOf t = record { ending = t .ending; listed = padded (t .names); count = length (t .names); steps = t .steps; exposures = t .exposures }
 
--- what one sequence's text comes to, without the items
+-- what one sequence's text comes to, without the items and a fault's reason
 abbrev pub walkedOf : Finding → Walked
 walkedOf (passes k x is p c) = Closed p c k x
-walkedOf (faults f) = Faulty f
+walkedOf (faults f reason) = Faulty f

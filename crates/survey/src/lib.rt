@@ -9,10 +9,10 @@ ghost use Rattle.sequence.specs.Text.{rowOf, sizeAt};
 ghost use Rattle.sequence.specs.Raster.{rasterAt};
 ghost use Rattle.sequence.specs.Env.{cardsOf, envOf};
 ghost use Rattle.survey.specs.Items.{rasterSteps, rasterExposures};
-ghost use Rattle.survey.specs.Walk.{oneMore, walk, checkOne, findingOf};
+ghost use Rattle.survey.specs.Walk.{oneMore, reasonFor, walk, checkOne, findingOf};
 ghost use Rattle.survey.specs.Chain.{total, follow, checkOf};
-ghost use Rattle.survey.specs.Report.{reportOf, walkedOf};
-ghost use Rattle.survey.specs.Held.{moved, RoomFor, exposuresIn, pauseIn, between, loopedIn, allRounds, AtMost, unmarked, Marked, Free, Is, LowCall, joined, ahead, emptyChain, reported};
+ghost use Rattle.survey.specs.Report.{reasonShown, reportOf, walkedOf};
+ghost use Rattle.survey.specs.Held.{moved, RoomFor, exposuresIn, pauseIn, between, loopedIn, allRounds, AtMost, unmarked, Marked, Free, Is, LowCall, joined, ahead, emptyChain, reasoned, reported};
 use memory::Format;
 use memory::Place;
 use memory::Placed;
@@ -20,6 +20,8 @@ use runner::Act;
 use runner::Opened;
 use sequence::Fault;
 use sequence::Header;
+use sequence::ListCard;
+use sequence::ReasonNumbers;
 
 // What a round of a sequence is made of: a delay outside rasters, by its place; or a raster, by its place, its loop back's target,
 // the loop back's place, the commands before the target and those from it up to the loop back.
@@ -34,6 +36,12 @@ pub enum Closing {
     CallsOn(u8),
 }
 
+// Why a fault is one, beyond its code: of a bad line list what its test answers, of any other nothing.
+pub enum Reason {
+    None,
+    OfList(ListCard),
+}
+
 // What one sequence's text comes to: a fault; or its closing command with its place, and the steps and exposures of all rounds.
 pub enum Walked {
     Faulty(Fault),
@@ -46,12 +54,12 @@ pub enum Walked {
 }
 
 // How the check of a chain ends: nothing listed, with a code; at a terminate; at a sequence that is listed already; at a fault, with its
-// sequence.
+// sequence and its reason.
 pub enum Ending {
     Unlisted(u8),
     Finishes,
     Returns,
-    Faults(u8, Fault),
+    Faults(u8, Fault, Reason),
 }
 
 // The chain so far: the sequences listed, in order, a mark for each of them, and the totals.
@@ -302,7 +310,7 @@ fn empty() -> Chain
 // Sequence n, which is not listed yet, listed and marked, and what its closing command leads to.
 fn check_sequence(format: Format, seqs: &[u8], lists: &[u8], n: u8, mut chain: Chain) -> Checked
     requires { ⌜ Fair format × Free chain n ⌝ }
-    ensures { λ r. ⌜ ((names : List ℕ) → Is chain names → reported r ≡ reportOf (joined names (chain .steps) (chain .exposures) (follow (findingOf (envOf format (now (lists .entry))) (now (seqs .entry))) (unmarked (chain .marks)) names n))) ⌝ }
+    ensures { λ r. ⌜ ((names : List ℕ) → Is chain names → reported (envOf format (now (lists .entry))) (now (seqs .entry)) r ≡ reportOf (joined names (chain .steps) (chain .exposures) (follow (findingOf (envOf format (now (lists .entry))) (now (seqs .entry))) (unmarked (chain .marks)) names n))) ⌝ }
 {
     let at = chain.count;
     let mark = n as usize;
@@ -312,7 +320,7 @@ fn check_sequence(format: Format, seqs: &[u8], lists: &[u8], n: u8, mut chain: C
     match check_text(format, memory::entry(format, seqs, n), lists) {
         Walked::Faulty(fault) => Checked {
             chain,
-            ending: Ending::Faults(n, fault),
+            ending: Ending::Faults(n, fault, Reason::None),
         },
         Walked::Closed {
             place: _,
@@ -336,7 +344,7 @@ fn check_closing(
     closing: Closing,
 ) -> Checked
     requires { ⌜ Fair format × Marked chain × LowCall closing ⌝ }
-    ensures { λ r. ⌜ ((names : List ℕ) → Is chain names → reported r ≡ reportOf (joined names (chain .steps) (chain .exposures) (ahead (follow (findingOf (envOf format (now (lists .entry))) (now (seqs .entry))) (unmarked (chain .marks)) names) closing))) ⌝ }
+    ensures { λ r. ⌜ ((names : List ℕ) → Is chain names → reported (envOf format (now (lists .entry))) (now (seqs .entry)) r ≡ reportOf (joined names (chain .steps) (chain .exposures) (ahead (follow (findingOf (envOf format (now (lists .entry))) (now (seqs .entry))) (unmarked (chain .marks)) names) closing))) ⌝ }
 {
     match closing {
         Closing::Terminates => Checked {
@@ -364,18 +372,72 @@ fn total(ending: Ending, sum: u64) -> u64
         Ending::Unlisted(_) => 0,
         Ending::Finishes => sum,
         Ending::Returns => sum,
-        Ending::Faults(_, _) => 0,
+        Ending::Faults(_, _, _) => 0,
+    }
+}
+
+impl Reason {
+    // The reason by number and value.
+    pub fn shown(self) -> ReasonNumbers
+        ensures { λ r. ⌜ r ≡ reasonShown self ⌝ }
+    {
+        match self {
+            Reason::None => ReasonNumbers {
+                number: 0,
+                value: 0,
+            },
+            Reason::OfList(card) => card.shown(),
+        }
+    }
+}
+
+// The line list that the run raster at this number names; past a text every byte is 0.
+fn list_named(format: Format, text: &[u8], number: u8) -> u8
+    requires { ⌜ length (now text) ≤ format .size ⌝ }
+    ensures { λ r. ⌜ r ≡ rasterAt (now (text .entry)) number .list ⌝ }
+{
+    match Place::of(format, number) {
+        Placed::At(at) => sequence::list_at(text, at),
+        Placed::Outside => 0,
+    }
+}
+
+// The reason of a fault in a text: of a 7 what the test answers for the line list that the run raster at its place names.
+fn reason_for(format: Format, text: &[u8], lists: &[u8], fault: Fault) -> Reason
+    requires { ⌜ length (now text) ≤ format .size ⌝ }
+    ensures { λ r. ⌜ r ≡ reasonFor (cardsOf (now (lists .entry))) (now (text .entry)) fault ⌝ }
+{
+    if fault.code != 7 {
+        return Reason::None;
+    }
+    let n = list_named(format, text, fault.place);
+    Reason::OfList(sequence::list_card(memory::list(lists, n)))
+}
+
+// How a chain ends, with the reason of a fault: it is found once, when it is reported.
+fn reasoned(format: Format, seqs: &[u8], lists: &[u8], ending: Ending) -> Ending
+    ensures { λ r. ⌜ r ≡ reasoned (envOf format (now (lists .entry))) (now (seqs .entry)) ending ⌝ }
+{
+    match ending {
+        Ending::Faults(n, fault, _) => {
+            let text = memory::entry(format, seqs, n);
+            Ending::Faults(n, fault, reason_for(format, text, lists, fault))
+        }
+        Ending::Unlisted(code) => Ending::Unlisted(code),
+        Ending::Finishes => Ending::Finishes,
+        Ending::Returns => Ending::Returns,
     }
 }
 
 impl Checked {
-    // What is reported of the chain and its ending.
-    fn report(self) -> Report
-        ensures { λ r. ⌜ r ≡ reported self ⌝ }
+    // What is reported of the chain and its ending, with a fault's reason.
+    fn report(self, format: Format, seqs: &[u8], lists: &[u8]) -> Report
+        ensures { λ r. ⌜ r ≡ reported (envOf format (now (lists .entry))) (now (seqs .entry)) self ⌝ }
     {
         let chain = self.chain;
         let listed = chain.listed;
-        let ending = self.ending;
+        let end = self.ending;
+        let ending = reasoned(format, seqs, lists, end);
         Report {
             ending,
             listed,
@@ -398,14 +460,14 @@ pub fn check(seqs: &[u8], lists: &[u8], number: u32) -> Report
             chain,
             ending: Ending::Unlisted(16),
         };
-        return wrong.report();
+        return wrong.report(format, seqs, lists);
     }
     if (format.last as u32) < number {
         let above = Checked {
             chain,
             ending: Ending::Unlisted(7),
         };
-        return above.report();
+        return above.report(format, seqs, lists);
     }
-    check_sequence(format, seqs, lists, number as u8, chain).report()
+    check_sequence(format, seqs, lists, number as u8, chain).report(format, seqs, lists)
 }

@@ -1,9 +1,12 @@
-// The table check at the desk: standard input is the two dumps put together, arguments are sequence numbers, none means all.
+// The table check at the desk: standard input is the two dumps put together, arguments are sequence numbers, none means all of them;
+// the argument `lists` asks for the test of every line list.
 use libc::STDIN_FILENO;
 use libc::STDOUT_FILENO;
 use line::Numeral;
 use sequence::Fault;
+use sequence::ListCard;
 use survey::Ending;
+use survey::Reason;
 use survey::Report;
 
 // The two dumps put together.
@@ -16,10 +19,22 @@ fn put_refused(text: &mut [u8], at: usize, word: &[u8], code: u8) -> usize {
     line::put_blank_number(text, p, code as u64)
 }
 
-// The chain's sequences in order, and the line's end.
+// The chain's sequences in order.
 fn put_chain(text: &mut [u8], at: usize, listed: &[u8; memory::SEQUENCES], count: usize) -> usize {
-    let p = line::put_numbers(text, at, octets::part(listed, 0, count));
-    line::put(text, p, b'\n')
+    line::put_numbers(text, at, octets::part(listed, 0, count))
+}
+
+// What is wrong with a line list, and the checksum expected; of a good one nothing.
+fn put_reason(text: &mut [u8], at: usize, card: ListCard) -> usize {
+    match card {
+        ListCard::Good => at,
+        ListCard::WindowCount => line::put_word(text, at, b" REASON count"),
+        ListCard::Length => line::put_word(text, at, b" REASON length"),
+        ListCard::Checksum(expected) => {
+            let p = line::put_word(text, at, b" REASON checksum ");
+            line::put_octet(text, p, expected)
+        }
+    }
 }
 
 // A passed check: how the chain ends, steps, exposures and the chain.
@@ -33,13 +48,14 @@ fn put_passed(text: &mut [u8], at: usize, word: &[u8], how: &[u8], report: Repor
     put_chain(text, p, &listed, report.count)
 }
 
-// A fault: its code, sequence and place, and the chain through that sequence.
+// A fault: its code, sequence and place, the chain through that sequence, and the reason where it has one.
 fn put_fault(
     text: &mut [u8],
     at: usize,
     word: &[u8],
     sequence: u8,
     fault: Fault,
+    reason: Reason,
     report: Report,
 ) -> usize {
     let listed = report.listed;
@@ -48,21 +64,49 @@ fn put_fault(
     p = line::put_blank_number(text, p, fault.code as u64);
     p = line::put_blank_number(text, p, sequence as u64);
     p = line::put_blank_number(text, p, fault.place as u64);
-    put_chain(text, p, &listed, report.count)
+    p = put_chain(text, p, &listed, report.count);
+    match reason {
+        Reason::None => p,
+        Reason::OfList(card) => put_reason(text, p, card),
+    }
+}
+
+// What a report tells, by its ending.
+fn put_told(text: &mut [u8], at: usize, word: &[u8], report: Report) -> usize {
+    let ending = report.ending;
+    match ending {
+        Ending::Unlisted(code) => put_refused(text, at, word, code),
+        Ending::Finishes => put_passed(text, at, word, b" ENDS", report),
+        Ending::Returns => put_passed(text, at, word, b" RETURNS", report),
+        Ending::Faults(sequence, fault, reason) => {
+            put_fault(text, at, word, sequence, fault, reason, report)
+        }
+    }
 }
 
 // The line of one report.
 fn put_report(text: &mut [u8], at: usize, word: &[u8], report: Report) -> usize {
-    let ending = report.ending;
-    match ending {
-        Ending::Unlisted(code) => {
-            let p = put_refused(text, at, word, code);
-            line::put(text, p, b'\n')
+    let p = put_told(text, at, word, report);
+    line::put(text, p, b'\n')
+}
+
+// Whether the test finds a line list good, and what is wrong where it does not.
+fn put_card(text: &mut [u8], at: usize, card: ListCard) -> usize {
+    match card {
+        ListCard::Good => line::put_word(text, at, b" GOOD"),
+        ListCard::WindowCount | ListCard::Length | ListCard::Checksum(_) => {
+            let p = line::put_word(text, at, b" BAD");
+            put_reason(text, p, card)
         }
-        Ending::Finishes => put_passed(text, at, word, b" ENDS", report),
-        Ending::Returns => put_passed(text, at, word, b" RETURNS", report),
-        Ending::Faults(sequence, fault) => put_fault(text, at, word, sequence, fault, report),
     }
+}
+
+// The line of one line list.
+fn put_list(text: &mut [u8], at: usize, n: u8, card: ListCard) -> usize {
+    let mut p = line::put_word(text, at, b"LIST");
+    p = line::put_blank_number(text, p, n as u64);
+    p = put_card(text, p, card);
+    line::put(text, p, b'\n')
 }
 
 // The check of the sequence that a word names, shown.
@@ -76,6 +120,34 @@ fn show(seqs: &[u8], lists: &[u8], word: &[u8], text: &mut [u8]) {
     io::write_all(STDOUT_FILENO, octets::part(text, 0, n));
 }
 
+// Every line list in order, shown.
+fn show_lists(lists: &[u8], text: &mut [u8]) {
+    let mut end = 0;
+    let mut n: u8 = 0;
+    while n <= memory::LAST_LINE_LIST {
+        end = put_list(text, end, n, sequence::list_card(memory::list(lists, n)));
+        n += 1;
+    }
+    io::write_all(STDOUT_FILENO, octets::part(text, 0, end));
+}
+
+// Whether a word is the one wanted.
+fn is_word(word: &[u8], wanted: &[u8]) -> bool {
+    if word.len() != wanted.len() {
+        return false;
+    }
+    line::begins(word, wanted)
+}
+
+// What a word asks for, shown: the line lists, or the check of a sequence.
+fn show_asked(seqs: &[u8], lists: &[u8], word: &[u8], text: &mut [u8]) {
+    if is_word(word, b"lists") {
+        show_lists(lists, text);
+    } else {
+        show(seqs, lists, word, text);
+    }
+}
+
 // Every sequence in order.
 fn show_all(seqs: &[u8], lists: &[u8], word: &mut [u8], text: &mut [u8]) {
     let mut n: u8 = 0;
@@ -86,18 +158,18 @@ fn show_all(seqs: &[u8], lists: &[u8], word: &mut [u8], text: &mut [u8]) {
     }
 }
 
-// The sequences that the arguments name.
+// What the arguments ask for, each in its turn.
 fn show_named(seqs: &[u8], lists: &[u8], word: &mut [u8], text: &mut [u8]) {
     let count = os::arg_count();
     let mut i = 1;
     while i < count {
         let end = os::arg(i, word);
-        show(seqs, lists, octets::part(word, 0, end), text);
+        show_asked(seqs, lists, octets::part(word, 0, end), text);
         i += 1;
     }
 }
 
-// The checks that are asked for, or that the input is no pair of tables.
+// What is asked for, or that the input is no pair of tables.
 fn run(tables: &mut [u8], word: &mut [u8], text: &mut [u8]) {
     let n = io::read_full(STDIN_FILENO, tables);
     if n != TABLES {

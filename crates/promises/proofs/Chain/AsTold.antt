@@ -8,13 +8,14 @@ use mathlib.Core.List.{List, [], _∷_, _++_}
 use lib.Dec.{eqb}
 use lib.ListN.{length}
 use Rattle.octets.proofs.Bools.{by-test}
+use Rattle.memory.specs.declared.Format.{Format}
 use Rattle.memory.specs.Memory.{Fair}
 use Rattle.sequence.specs.declared.Fault.{Fault}
 use Rattle.sequence.specs.declared.Header.{Header}
 use Rattle.sequence.specs.declared.Header.the-variants.{Repeats, Bad}
 use Rattle.sequence.specs.Text.{fault, headerOf}
 use Rattle.sequence.specs.Starts.{among}
-use Rattle.sequence.specs.Env.{Env, textOf}
+use Rattle.sequence.specs.Env.{Env, envOf, textOf}
 use Rattle.runner.specs.declared.Runner.{Runner}
 use Rattle.runner.specs.declared.Sight.{Sight}
 use Rattle.runner.specs.declared.Stepped.{Stepped}
@@ -25,6 +26,7 @@ use Rattle.runner.specs.Step.{aborted, enteredBy, entered, stepIn, stepOf}
 use Rattle.runner.proofs.Laws.{step-idle}
 use Rattle.survey.specs.declared.Ending.{Ending}
 use Rattle.survey.specs.declared.Ending.the-variants.{Unlisted, Finishes, Returns, Faults}
+use Rattle.survey.specs.declared.Reason.{Reason}
 use Rattle.survey.specs.Chain.{Told}
 use Rattle.survey.specs.Report.{EndingShown}
 use Rattle.unit.specs.declared.Outcome.{Outcome}
@@ -108,33 +110,36 @@ module _ (E : Env) (seqs : List ℕ) where
       (λ r. let i : Idle ≡ Abort (fault .code) n (fault .place) = ap (λ (x : Stepped). x .event) (step-idle E seqs s r) ∙ e in absurd (true≢false (ap isIdle i)))
 
 -- ── a chain from the door of sequence n
-module _ (E : Env) (fair : Fair (E .format)) (seqs : List ℕ) (n m : ℕ) (r : Runner) (h : n ≤ E .format .last) (d : AtDoor n m r) where
+module _ (F : Format) (lists : List ℕ) (fair : Fair F) (seqs : List ℕ) (n m : ℕ) (r : Runner) (h : n ≤ F .last) (d : AtDoor n m r) where
+  abbrev E : Env
+  E = envOf F lists
+
   abbrev t : Told
   t = chainIn E seqs n
 
   -- the sights of j steps, for a chain that ends in this way
   abbrev Goes : Ending → ℕ → Type 0
   Goes ending j =
-      FirstThen (t .steps) Works (GoesOn (E .format) seqs ending (t .names)) (saws (sightsOf E seqs j r))
+      FirstThen (t .steps) Works (GoesOn F seqs ending (t .names)) (saws (sightsOf E seqs j r))
       × (j ≡ t .steps → (sightsOf E seqs j r ≡ chainSights E seqs (t .names) m) × (length (positionsSeen (sightsOf E seqs j r)) ≡ t .exposures))
 
-  goes : (ending : Ending) (P : Runner → Type 0) → ((last : Runner) → P last → Run E seqs r (chainSights E seqs (t .names) m) last → (j : ℕ) → GoesOn (E .format) seqs ending (t .names) (saws (sightsOf E seqs (suc j) last)))
+  goes : (ending : Ending) (P : Runner → Type 0) → ((last : Runner) → P last → Run E seqs r (chainSights E seqs (t .names) m) last → (j : ℕ) → GoesOn F seqs ending (t .names) (saws (sightsOf E seqs (suc j) last)))
       → Ran E seqs (chainSights E seqs (t .names) m) (t .names) (t .steps) (t .exposures) P r → (j : ℕ) → Goes ending j
   goes ending P q i j =
       let ws = chainSights E seqs (t .names) m in
       let busy = chain-busy E seqs (t .names) m in (
-        subst (λ (k : ℕ). FirstThen k Works (GoesOn (E .format) seqs ending (t .names)) (saws (sightsOf E seqs j r))) (i .taken)
-            (run-works E seqs (GoesOn (E .format) seqs ending (t .names)) (i .run) busy (q (i .last) (i .leaves) (i .run)) j),
+        subst (λ (k : ℕ). FirstThen k Works (GoesOn F seqs ending (t .names)) (saws (sightsOf E seqs j r))) (i .taken)
+            (run-works E seqs (GoesOn F seqs ending (t .names)) (i .run) busy (q (i .last) (i .leaves) (i .run)) j),
         λ e.
             let same : sightsOf E seqs j r ≡ ws = ap (λ (k : ℕ). sightsOf E seqs k r) (e ∙ sym (i .taken)) ∙ run-sights E seqs (i .run) in
             (same, ap (λ (vs : List Sight). length (positionsSeen vs)) same ∙ ap length (i .placed) ∙ i .made),
       )
 
   -- the chain lists its first sequence, so what its last one calls is told by a name
-  called-last : (u : ℕ) → CallsLast E seqs n (t .names) u → Calling (E .format) seqs (lastOf 0 (t .names)) u
+  called-last : (u : ℕ) → CallsLast E seqs n (t .names) u → Calling F seqs (lastOf 0 (t .names)) u
   called-last u e =
-      let (rest, names) = chain-first (E .format) seqs (chain-lists E seqs n h .chain) in
-      subst (λ (ns : List ℕ). CallsLast E seqs n ns u → Calling (E .format) seqs (lastOf 0 ns) u) (sym names) (λ w. w) e
+      let (rest, names) = chain-first F seqs lists (chain-lists F lists seqs n h .chain) in
+      subst (λ (ns : List ℕ). CallsLast E seqs n ns u → Calling F seqs (lastOf 0 ns) u) (sym names) (λ w. w) e
 
   goes-as-told : (ending : Ending) → KeptFrom E seqs n [] (t .names) ending (t .steps) (t .exposures) m r → IsPassed ending → ((k : ℕ) → Quiet E seqs k r) → (j : ℕ) → Goes ending j
   unfolding KeptFrom sightsOf among
@@ -145,9 +150,9 @@ module _ (E : Env) (fair : Fair (E .format)) (seqs : List ℕ) (n m : ℕ) (r : 
       (λ last b ran k.
       let door = door-enters E seqs (b .3) (run-next E seqs ran (q (suc (length (chainSights E seqs (t .names) m))))) in
       (λ f. absurd (let z = ap (λ (x : EndingShown). x .number) f in omega arith), λ f. (b .0, called-last (b .0) (b .4), b .2, λ count. ap (shownAs count) door))) i j
-  goes-as-told (Faults q f) i y k j = absurd y
+  goes-as-told (Faults q f reason) i y k j = absurd y
 
-  pub as-told : IsPassed (t .ending) → (j : ℕ) → NonePast 2400 (exposedPositions (eventsOf (saws (sightsOf E seqs j r)))) → RunsAsTold (E .format) seqs t (saws (sightsOf E seqs j r))
+  pub as-told : IsPassed (t .ending) → (j : ℕ) → NonePast 2400 (exposedPositions (eventsOf (saws (sightsOf E seqs j r)))) → RunsAsTold F seqs t (saws (sightsOf E seqs j r))
   as-told y j reach =
       let quiet = never E seqs fair n m r h d y in
       let (works, full) = goes-as-told (t .ending) (kept-exactly E fair seqs n m r h d) y quiet j in
@@ -165,9 +170,9 @@ module _ (E : Env) (fair : Fair (E .format)) (seqs : List ℕ) (n m : ℕ) (r : 
         exposures = λ e. ap length (saws-each positionShown ws ∙ sym (seen-shown ws)) ∙ full (whole e) .1;
       }
 
-  pub aborts : (code q p : ℕ) → t .ending ≡ Faults q (fault code p) → (k : ℕ) × ((j : ℕ) → FirstThen k Works (AbortsAt code q p) (saws (sightsOf E seqs j r)))
+  pub aborts : (code q p : ℕ) (reason : Reason) → t .ending ≡ Faults q (fault code p) reason → (k : ℕ) × ((j : ℕ) → FirstThen k Works (AbortsAt code q p) (saws (sightsOf E seqs j r)))
   unfolding KeptFrom sightsOf
-  aborts code q p e =
+  aborts code q p reason e =
       let a : Aborts E seqs q (fault code p) r =
       subst (λ (x : Ending). KeptFrom E seqs n [] (t .names) x (t .steps) (t .exposures) m r) e (kept-exactly E fair seqs n m r h d) in
       let (running, stops) = at-fault E seqs (a .last) (a .abort) in (
@@ -177,7 +182,7 @@ module _ (E : Env) (fair : Fair (E .format)) (seqs : List ℕ) (n m : ℕ) (r : 
       )
 
   -- a chain that returns leads to the door of a listed sequence
-  pub returns-at : t .ending ≡ Returns → (u : ℕ) × (u ≤ E .format .last) × (among u (t .names) ≡ true) × Calling (E .format) seqs (lastOf 0 (t .names)) u × AtDoor u (chainEnd E seqs (t .names) m) (afterSteps E seqs (t .steps) r)
+  pub returns-at : t .ending ≡ Returns → (u : ℕ) × (u ≤ F .last) × (among u (t .names) ≡ true) × Calling F seqs (lastOf 0 (t .names)) u × AtDoor u (chainEnd E seqs (t .names) m) (afterSteps E seqs (t .steps) r)
   unfolding KeptFrom among
   returns-at e =
       let i : Ran E seqs (chainSights E seqs (t .names) m) (t .names) (t .steps) (t .exposures) (BackTo E seqs n [] (t .names) (chainEnd E seqs (t .names) m)) r =

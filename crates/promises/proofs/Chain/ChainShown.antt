@@ -16,7 +16,7 @@ use Rattle.promises.proofs.Chain.Chains.{findingSights, findingEnd, cha
 module _ {A : Type 0} (f : Event → List A) where
   abbrev pub findingShown : ℕ → List ℕ → Finding → List A
   findingShown n text (passes k x items e closing) = f (Enter n) ++ turns 0 (byteAt text 3) (λ r l. itemsShown f text items)
-  findingShown n text (faults f) = []
+  findingShown n text (faults f reason) = []
 
   abbrev pub chainShown : Env → List ℕ → List ℕ → List A
   chainShown E seqs [] = []
@@ -25,7 +25,7 @@ module _ {A : Type 0} (f : Event → List A) where
   module _ (blind : Blind f) (E : Env) (seqs : List ℕ) where
     finding-shown : (n m : ℕ) (v : Finding) → checkOne E (textOf E seqs n) ≡ v → shown f (findingSights (textOf E seqs n) n v m) ≡ findingShown n (textOf E seqs n) v
     finding-shown n m (passes k x items e closing) says = sequence-shown f blind E (textOf E seqs n) n (passed-read E (textOf E seqs n) says .0) (byteAt (textOf E seqs n) 3) m
-    finding-shown n m (faults w) says = refl
+    finding-shown n m (faults w reason) says = refl
 
     pub chain-shown : (names : List ℕ) (m : ℕ) → shown f (chainSights E seqs names m) ≡ chainShown E seqs names
     unfolding chainSights

@@ -42,11 +42,11 @@ use Rattle.promises.proofs.Text.TextOrder.{commandOf, closing-of}
 -- ── what is to be seen of a chain, from the mirror at m, and where the mirror then is
 abbrev pub findingSights : List ℕ → ℕ → Finding → ℕ → List Sight
 findingSights text n (passes k x items e closing) m = sequenceSights text n (byteAt text 3) items e closing m
-findingSights text n (faults f) m = []
+findingSights text n (faults f reason) m = []
 
 abbrev pub findingEnd : List ℕ → Finding → ℕ → ℕ
 findingEnd text (passes k x items e closing) m = endOf text items m
-findingEnd text (faults f) m = m
+findingEnd text (faults f reason) m = m
 
 unfoldable pub chainSights : Env → List ℕ → List ℕ → ℕ → List Sight
 chainSights E seqs [] m = []
@@ -71,7 +71,7 @@ unfoldable pub KeptFrom : Env → List ℕ → ℕ → List ℕ → List ℕ →
 KeptFrom E seqs first before names (Unlisted code) k x m s = ⊥
 KeptFrom E seqs first before names Finishes k x m s = Ran E seqs (chainSights E seqs names m) names k x AtRest s
 KeptFrom E seqs first before names Returns k x m s = Ran E seqs (chainSights E seqs names m) names k x (BackTo E seqs first before names (chainEnd E seqs names m)) s
-KeptFrom E seqs first before names (Faults n f) k x m s = Aborts E seqs n f s
+KeptFrom E seqs first before names (Faults n f reason) k x m s = Aborts E seqs n f s
 
 module _ (E : Env) (seqs : List ℕ) where
   abbrev text : ℕ → List ℕ
@@ -118,7 +118,7 @@ module _ (E : Env) (seqs : List ℕ) where
     kept-front u c before names Returns k′ x′ i =
         in-front names k′ x′ (BackTo E seqs u (n ∷ before) names (chainEnd E seqs names (endOf (text n) items m))) (BackTo E seqs n before (n ∷ names) (chainEnd E seqs (n ∷ names) m))
         (λ s′ b. (b .0, b .1, or-move (eqb n (b .0)) (among (b .0) before) (among (b .0) names) (b .2), rw says (b .3), called u c names (b .0) (b .4))) i
-    kept-front u c before names (Faults q f) k′ x′ i = record { sights = _; last = i .last; ran = o .ran ▸ i .ran; abort = i .abort }
+    kept-front u c before names (Faults q f reason) k′ x′ i = record { sights = _; last = i .last; ran = o .ran ▸ i .ran; abort = i .abort }
 
   abbrev KeptTold : ℕ → List ℕ → Told → ℕ → Runner → Type 0
   KeptTold first before t m s = KeptFrom E seqs first before (t .names) (t .ending) (t .steps) (t .exposures) m s
@@ -127,7 +127,7 @@ module _ (E : Env) (seqs : List ℕ) where
   kept-onward : (before : List ℕ) (n : ℕ) (go : ℕ → Told) → ((u m : ℕ) (s : Runner) → u ≤ E .format .last → AtDoor u m s → KeptTold u (n ∷ before) (go u) m s)
       → (m : ℕ) (s : Runner) (v : Finding) → checkOne E (text n) ≡ v → One E seqs n m v s → KeptTold n before (onward go n v) m s
   unfolding onward KeptFrom One After chainSights chainPositions
-  kept-onward before n go ih m s (faults f) says o = o
+  kept-onward before n go ih m s (faults f reason) says o = o
   kept-onward before n go ih m s (passes k x items e Terminates) says o =
       let y : k + 0 ≡ k = omega arith in
       let z : x + 0 ≡ x = omega arith in
@@ -179,7 +179,7 @@ kept-from E seqs first t m s Returns i = (
     leaves = (i .leaves .0, chainEnd E seqs (t .names) m, i .leaves .1, i .leaves .2, i .leaves .3);
   },
 )
-kept-from E seqs first t m s (Faults n f) i = i
+kept-from E seqs first t m s (Faults n f reason) i = i
 
 pub kept : (E : Env) → Fair (E .format) → (seqs : List ℕ) (n m : ℕ) (s : Runner) → n ≤ E .format .last → AtDoor n m s → Kept E seqs (chainIn E seqs n) s
 kept E fair seqs n m s h d = kept-from E seqs n (chainIn E seqs n) m s (chainIn E seqs n .ending) (kept-exactly E fair seqs n m s h d)

@@ -90,7 +90,7 @@ module _ (E : Env) (seqs : List ℕ) where
   fine-onward : (before : List ℕ) (n : ℕ) (go : ℕ → Told) → ((u : ℕ) → u ≤ E .format .last → IsPassed (go u .ending) → AllFine (n ∷ before) u (go u))
       → (v : Finding) → checkOne E (textOf E seqs n) ≡ v → IsPassed (onward go n v .ending) → AllFine before n (onward go n v)
   unfolding onward among
-  fine-onward before n go ih (faults f) says y = absurd y
+  fine-onward before n go ih (faults f reason) says y = absurd y
   fine-onward before n go ih (passes k x items e Terminates) says y = (each, first-listed before n [])
     where
       each : (u : ℕ) → among u (n ∷ []) ≡ true → Fine E seqs (Listed before (n ∷ [])) u

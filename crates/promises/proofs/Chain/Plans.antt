@@ -82,7 +82,7 @@ items-planned text (Scan p t b before from ∷ items) =
 -- the check passes each of these sequences
 abbrev Passes : Finding → Type 0
 Passes (passes k x items e closing) = Unit {0}
-Passes (faults f) = ⊥
+Passes (faults f reason) = ⊥
 
 abbrev AllPass : Env → List ℕ → List ℕ → Type 0
 AllPass E seqs [] = Unit {0}
@@ -95,7 +95,7 @@ module _ (E : Env) (seqs : List ℕ) where
       let round : itemsShown landmark text items ≡ roundPlan text =
       items-planned text items ∙ ap (rastersPlan text) (sym (rasters-of (passed-read E text says .0))) in
       ap (λ (es : List Event). Enter n ∷ es) (turns-same (λ r l. itemsShown landmark text items) (λ r l. roundPlan text) (λ r l. round) 0 (byteAt text 3))
-  finding-planned n (faults f) says y = absurd y
+  finding-planned n (faults f reason) says y = absurd y
 
   chain-planned : (names : List ℕ) → AllPass E seqs names → chainShown landmark E seqs names ≡ chainPlan (E .format) seqs names
   chain-planned [] y = refl

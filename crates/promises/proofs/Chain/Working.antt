@@ -111,7 +111,7 @@ items-busy text (Scan p t b before from ∷ items) =
 
 finding-busy : (n : ℕ) (text : List ℕ) (v : Finding) → findingShown idleness n text v ≡ []
 finding-busy n text (passes k x items e closing) = nothing-turns (λ r l. itemsShown idleness text items) (λ r l. items-busy text items) 0 (byteAt text 3)
-finding-busy n text (faults f) = refl
+finding-busy n text (faults f reason) = refl
 
 names-busy : (E : Env) (seqs names : List ℕ) → chainShown idleness E seqs names ≡ []
 names-busy E seqs [] = refl

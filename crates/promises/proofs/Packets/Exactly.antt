@@ -125,13 +125,13 @@ abbrev listed : Ending → Bool
 listed (Unlisted code) = false
 listed Finishes = true
 listed Returns = true
-listed (Faults n f) = true
+listed (Faults n f reason) = true
 
 onward-listed : (go : ℕ → Told) (n : ℕ) (found : Finding) → ((m : ℕ) → listed (go m .ending) ≡ true) → listed (onward go n found .ending) ≡ true
 unfolding onward
 onward-listed go n (passes k x items p Terminates) h = refl
 onward-listed go n (passes k x items p (CallsOn m)) h = h m
-onward-listed go n (faults f) h = refl
+onward-listed go n (faults f reason) h = refl
 
 abbrev nothing : ℕ → Told
 nothing c = told [] (Unlisted c) 0 0

@@ -28,6 +28,7 @@ use Rattle.runner.specs.declared.Act.{Act}
 use Rattle.runner.specs.declared.Act.the-variants.{Refused, Opens, Exposes, Loops, Waits, Calls, Ends}
 use Rattle.runner.specs.Judge.{pathRows, rasterRows, runRows, exposeRows, loopRows, closeRows, unless, judged, judge}
 use Rattle.runner.specs.Step.{openOf, aborted, enteredBy, entered, begun, advances, exposed, looped, delayed, called, ended, act, stepIn}
+use Rattle.runner.proofs.Exactly.{loop-coded}
 use Rattle.promises.specs.Runs.{isA, quiet}
 use Rattle.promises.specs.Demand2.{advanceRows, callRows, commandRows, rowsOfStep, faultPlace}
 
@@ -116,11 +117,6 @@ module _ (E : Env) (text : List ℕ) (s : Runner) where
   expose-coded time Shut = tt
   expose-coded time (Open r c n) = tt
 
-  loop-coded : (t : ℕ) (o : Opened) → T (coded (loopRows text (s .place) t o))
-  unfolding loopRows
-  loop-coded t Shut = tt
-  loop-coded t (Open r c n) = tt
-
   expose-decides : (time : ℕ) (o : Opened) → DecidesAct (firstCode (exposeRows text time o ++ advanceRows text s o)) (judged (E .cards) text (s .place) o (Expose time))
   unfolding judged exposeRows act
   expose-decides time Shut = at-fault (λ _. s .place) s 3 (omega arith)
@@ -130,7 +126,7 @@ module _ (E : Env) (text : List ℕ) (s : Runner) where
   unfolding judged runRows rasterRows pathRows closeRows act delayed
   command-decides RunRaster = by-these (runRows (E .cards) text (s .place) (openOf (E .format) s)) Opens tt opens-work
   command-decides (Expose time) = expose-decides time (openOf (E .format) s)
-  command-decides (LoopBack t) = by-these (loopRows text (s .place) t (openOf (E .format) s)) (Loops t) (loop-coded t (openOf (E .format) s)) (loops-work t)
+  command-decides (LoopBack t) = by-these (loopRows text (s .place) t (openOf (E .format) s)) (Loops t) (loop-coded text (s .place) t (openOf (E .format) s)) (loops-work t)
   command-decides (CallSequence n) = by-rows (closeRows text (s .place) (openOf (E .format) s)) (callRows (E .format) s n) (Calls n) tt (calls-decide n)
   command-decides Terminate = by-these (closeRows text (s .place) (openOf (E .format) s)) Ends tt ends-work
   command-decides (Delay time) = at-work (λ _. s .place) s (does Waits) refl
@@ -161,7 +157,7 @@ module _ (E : Env) (text : List ℕ) (s : Runner) where
   unfolding runRows rasterRows pathRows closeRows
   command-coded RunRaster = tt
   command-coded (Expose time) = expose-coded time (openOf (E .format) s)
-  command-coded (LoopBack t) = loop-coded t (openOf (E .format) s)
+  command-coded (LoopBack t) = loop-coded text (s .place) t (openOf (E .format) s)
   command-coded (CallSequence n) = tt
   command-coded Terminate = tt
   command-coded (Delay time) = tt

@@ -11,7 +11,8 @@ use Rattle.runner.specs.declared.Event.the-variants.{Idle, Enter, Raster, Exp, 
 use Rattle.runner.specs.Events.{Shown, shownAs}
 use Rattle.survey.specs.declared.Ending.{Ending}
 use Rattle.survey.specs.declared.Ending.the-variants.{Unlisted, Finishes, Returns, Faults}
-use Rattle.survey.specs.Report.{EndingShown, endingShown}
+use Rattle.survey.specs.declared.Reason.{Reason}
+use Rattle.survey.specs.Report.{EndingShown, endingShown, reasonOf}
 use Rattle.unit.specs.declared.Outcome.{Outcome}
 use Rattle.unit.specs.declared.Outcome.the-variants.{Denied, Saw}
 use Rattle.promises.specs.Runs.{ShownAs, Showing}
@@ -49,27 +50,27 @@ outcome-shown (Denied code) seen h k = absurd h
 outcome-shown (Saw e) seen h k = ap Saw (event-shown e seen h k)
 
 -- ── endings
-endingOf : EndingShown → Ending
-endingOf x = cond (eqb (x .number) 0) (Unlisted (x .code)) (cond (eqb (x .number) 1) Finishes (cond (eqb (x .number) 2) Returns (Faults (x .sequence) (fault (x .code) (x .place)))))
+endingOf : Reason → EndingShown → Ending
+endingOf reason x = cond (eqb (x .number) 0) (Unlisted (x .code)) (cond (eqb (x .number) 1) Finishes (cond (eqb (x .number) 2) Returns (Faults (x .sequence) (fault (x .code) (x .place)) reason)))
 
-ending-back : (e : Ending) → endingOf (endingShown e) ≡ e
+ending-back : (e : Ending) → endingOf (reasonOf e) (endingShown e) ≡ e
 unfolding endingOf
 ending-back (Unlisted code) = refl
 ending-back Finishes = refl
 ending-back Returns = refl
-ending-back (Faults n f) = refl
+ending-back (Faults n f reason) = refl
 
 pub ends-so : {e : Ending} → Ends e → e ≡ Finishes
 unfolding endingOf
-ends-so {e} h = sym (ending-back e) ∙ ap endingOf h
+ends-so {e} h = sym (ending-back e) ∙ ap (endingOf (reasonOf e)) h
 
 pub back-so : {e : Ending} → ComesBack e → e ≡ Returns
 unfolding endingOf
-back-so {e} h = sym (ending-back e) ∙ ap endingOf h
+back-so {e} h = sym (ending-back e) ∙ ap (endingOf (reasonOf e)) h
 
-pub fault-so : {e : Ending} {code n place : ℕ} → HasFault code n place e → e ≡ Faults n (fault code place)
+pub fault-so : {e : Ending} {code n place : ℕ} → HasFault code n place e → e ≡ Faults n (fault code place) (reasonOf e)
 unfolding endingOf
-fault-so {e} h = sym (ending-back e) ∙ ap endingOf h
+fault-so {e} h = sym (ending-back e) ∙ ap (endingOf (reasonOf e)) h
 
 pub passed-so : (e : Ending) → EndsOrReturns e → IsPassed e
 passed-so e (inl h) = subst IsPassed (sym (ends-so {e = e} h)) tt
@@ -79,4 +80,4 @@ pub so-passed : (e : Ending) → IsPassed e → EndsOrReturns e
 so-passed (Unlisted code) y = absurd y
 so-passed Finishes y = inl refl
 so-passed Returns y = inr refl
-so-passed (Faults n f) y = absurd y
+so-passed (Faults n f reason) y = absurd y

@@ -26,7 +26,7 @@ pub record Passed (E : Env) (seqs : List ℕ) (n m k x : ℕ) (items : List Item
 
 unfoldable pub One : Env → List ℕ → ℕ → ℕ → Finding → Runner → Type 0
 One E seqs n m (passes k x items e closing) s = Passed E seqs n m k x items e closing s
-One E seqs n m (faults f) s = Aborts E seqs n f s
+One E seqs n m (faults f reason) s = Aborts E seqs n f s
 
 module _ (E : Env) (fair : Fair (E .format)) (seqs : List ℕ) (n m : ℕ) (d : OpenRaster) (old : ℕ) where
   abbrev text : List ℕ
@@ -37,13 +37,13 @@ module _ (E : Env) (fair : Fair (E .format)) (seqs : List ℕ) (n m : ℕ) (d : 
   from-door (passes k x items e closing) (whole (some, entered) w c) =
       let (s, ran, a) = rounds-run E fair seqs n m (c .0) w (byteAt text 3) d some in
       record { counted = c; last = s; ran = more (step-enters E seqs n d m old entered) refl ran; after = a }
-  from-door (faults f) (broken (some, entered) b) =
+  from-door (faults f reason) (broken (some, entered) b) =
       let (tail, s, ran, a) = body-run E fair seqs n b d m (byteAt text 3) in
       record { sights = _; last = s; ran = more (step-enters E seqs n d m old entered) refl ran; abort = a }
-  from-door (faults f) (miscalls {t} (some, entered) b l) =
+  from-door (faults f reason) (miscalls {t} (some, entered) b l) =
       let z = rounds-miscall E fair seqs n m b t refl l (byteAt text 3) d some in
       record { sights = _; last = z .last; ran = more (step-enters E seqs n d m old entered) refl (z .ran); abort = z .abort }
-  from-door (faults f) (barred h) = record { sights = []; last = door n d m old; ran = done; abort = step-barred E seqs n d m old h }
+  from-door (faults f reason) (barred h) = record { sights = []; last = door n d m old; ran = done; abort = step-barred E seqs n d m old h }
 
 pub one-sequence : (E : Env) → Fair (E .format) → (seqs : List ℕ) (n m : ℕ) (s : Runner) → AtDoor n m s → One E seqs n m (checkOne E (textOf E seqs n)) s
 one-sequence E fair seqs n m s d =

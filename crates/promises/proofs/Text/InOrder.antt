@@ -26,6 +26,7 @@ use Rattle.runner.specs.Judge.{closeRows, judge}
 use Rattle.survey.specs.declared.Item.{Item}
 use Rattle.survey.specs.declared.Item.the-variants.{Pause}
 use Rattle.survey.specs.declared.Closing.the-variants.{Terminates, CallsOn}
+use Rattle.survey.specs.declared.Reason.the-variants.{None}
 use Rattle.survey.specs.Walk.{Finding, passes, faults, inFront, scan, paused, oneMore, walked, walk, rounds, checkedBy, checkOne}
 use Rattle.promises.specs.EachCheck.{rulesFor, rulesAt, openAfter, isClosing, UpTo, there, next, Passes, Breaks}
 use Rattle.promises.proofs.Text.Rules.{View, refused, opens, opens-again, exposes, loops, waits, calls, ends, view, size-some, judge-past, ownRows, tells}
@@ -72,41 +73,41 @@ module _ (E : Env) (text : List ℕ) (p : ℕ) where
 abbrev Walked : Env → List ℕ → ℕ → Opened → Finding → Type 0
 Walked E text p o (passes k x items e closing) =
     (o′ : Opened) × UpTo E text e o′ p o × (commandAt text e ≡ commandOf closing) × NoneHolds (closeRows text e o′)
-Walked E text p o (faults f) = (o′ : Opened) × UpTo E text (f .place) o′ p o × FirstBears (f .code) (rulesAt E text (f .place) o′)
+Walked E text p o (faults f reason) = (o′ : Opened) × UpTo E text (f .place) o′ p o × FirstBears (f .code) (rulesAt E text (f .place) o′)
 
 module _ (E : Env) (text : List ℕ) where
   -- an item in front changes nothing of it
   in-front : (p : ℕ) (o : Opened) (i : Item) (v : Finding) → Walked E text p o v → Walked E text p o (inFront text i v)
   in-front p o i (passes k x items e closing) w = w
-  in-front p o i (faults f) w = w
+  in-front p o i (faults f reason) w = w
 
   -- one command that passes, and the walk after it
   step-on : (p : ℕ) (o : Opened) (k : Command) → commandAt text p ≡ k → isClosing k ≡ false → NoneHolds (ownRows E text p o (commandAt text p)) → (v : Finding)
       → Walked E text (p + sizeAt text p) (openAfter text p o k) v → Walked E text p o v
   step-on p o k e c h (passes k′ x items q closing) (o′, u, rest, none) =
       (o′, next {p = p} {o = o} (rw e c) (own-none E text p o (commandAt text p) (rw e c) h) (subst (λ (y : Command). UpTo E text q o′ (p + sizeAt text p) (openAfter text p o y)) (sym e) u), rest, none)
-  step-on p o k e c h (faults f) (o′, u, bears) =
+  step-on p o k e c h (faults f reason) (o′, u, bears) =
       (o′, next {p = p} {o = o} (rw e c) (own-none E text p o (commandAt text p) (rw e c) h) (subst (λ (y : Command). UpTo E text (f .place) o′ (p + sizeAt text p) (openAfter text p o y)) (sym e) u), bears)
 
   module _ (f : ℕ) (go : ℕ → Opened → Finding) (ih : (p : ℕ) (o : Opened) → length text ≤ p + f → Walked E text p o (go p o)) where
-    one-command : (p : ℕ) (o : Opened) (a : Act) → length text ≤ p + suc f → judge (E .cards) text p o ≡ a → View E text p o a → Walked E text p o (walked text go p o a)
+    one-command : (p : ℕ) (o : Opened) (a : Act) → length text ≤ p + suc f → judge (E .cards) text p o ≡ a → View E text p o a → Walked E text p o (walked (E .cards) text go p o a)
     unfolding walked sizeOf
     one-command p o a h j (refused {code} b) = (o, there, own-bears E text p o code (commandAt text p) (tells E text p o a j))
     one-command p o a h j (opens k g) =
         let z = size-some E text p RunRaster k (omega arith) in
-        step-on p o RunRaster k refl (tells E text p o a j) (walked text go p o a) (ih (p + sizeAt text p) (Open (placeAt p) 0 (rasterAt text p .repeats)) (omega arith))
+        step-on p o RunRaster k refl (tells E text p o a j) (walked (E .cards) text go p o a) (ih (p + sizeAt text p) (Open (placeAt p) 0 (rasterAt text p .repeats)) (omega arith))
     one-command p o a h j (opens-again k g e) =
         let z = size-some E text p RunRaster k (omega arith) in
-        step-on p o RunRaster k refl (tells E text p o a j) (walked text go p o a) (ih (p + sizeAt text p) (Open (placeAt p) 0 (rasterAt text p .repeats)) (omega arith))
+        step-on p o RunRaster k refl (tells E text p o a j) (walked (E .cards) text go p o a) (ih (p + sizeAt text p) (Open (placeAt p) 0 (rasterAt text p .repeats)) (omega arith))
     one-command p o a h j (exposes {r} {c} {t} k l) =
         let z = size-some E text p (Expose t) k (omega arith) in
-        step-on p o (Expose t) k refl (tells E text p o a j) (walked text go p o a) (ih (p + sizeAt text p) (oneMore o) (omega arith))
+        step-on p o (Expose t) k refl (tells E text p o a j) (walked (E .cards) text go p o a) (ih (p + sizeAt text p) (oneMore o) (omega arith))
     one-command p o a h j (loops {r} {c} {t} k l g) =
         let z = size-some E text p (LoopBack t) k (omega arith) in
-        step-on p o (LoopBack t) k refl (tells E text p o a j) (walked text go p o a) (in-front (p + sizeAt text p) Shut (scan text (r .0) t p) (go (p + sizeAt text p) Shut) (ih (p + sizeAt text p) Shut (omega arith)))
+        step-on p o (LoopBack t) k refl (tells E text p o a j) (walked (E .cards) text go p o a) (in-front (p + sizeAt text p) Shut (scan text (r .0) t p) (go (p + sizeAt text p) Shut) (ih (p + sizeAt text p) Shut (omega arith)))
     one-command p o a h j (waits {t} k) =
         let z = size-some E text p (Delay t) k (omega arith) in
-        step-on p o (Delay t) k refl (tells E text p o a j) (walked text go p o a) (pause o (go (p + sizeAt text p) o) (ih (p + sizeAt text p) o (omega arith)))
+        step-on p o (Delay t) k refl (tells E text p o a j) (walked (E .cards) text go p o a) (pause o (go (p + sizeAt text p) o) (ih (p + sizeAt text p) o (omega arith)))
       where
         pause : (o : Opened) (v : Finding) → Walked E text (p + sizeAt text p) o v → Walked E text (p + sizeAt text p) o (paused text p o v)
         pause Shut v w = in-front (p + sizeAt text p) Shut (Pause p) v w
@@ -122,16 +123,16 @@ module _ (E : Env) (text : List ℕ) where
   -- ── one sequence
   abbrev pub Checked : Finding → Type 0
   Checked (passes k x items e closing) = Passes E text
-  Checked (faults f) = Breaks E text (f .code) (f .place)
+  Checked (faults f reason) = Breaks E text (f .code) (f .place)
 
   all-rounds : (q : ℕ) (v : Finding) → NoneHolds (headerRows text) → Walked E text 4 Shut v → Checked (rounds (E .format) q v)
   all-rounds q (passes k x items e Terminates) h (o, u, c, n) = record { header = h; last = e; held = o; before = u; closes = rw c; obeyed = rw c n }
   all-rounds q (passes k x items e (CallsOn m)) h (o, u, c, n) = go (ltb (E .format .last) m) refl
     where
-      go : (b : Bool) → ltb (E .format .last) m ≡ b → Checked (cond b (faults (fault 4 e)) (passes (1 + q * k) (q * x) items e (CallsOn m)))
+      go : (b : Bool) → ltb (E .format .last) m ≡ b → Checked (cond b (faults (fault 4 e) None) (passes (1 + q * k) (q * x) items e (CallsOn m)))
       go true l = inr (record { header = h; held = o; before = u; broken = rw c (bears-last E text e 4 (closeRows text e o) (row 4 (ltb (E .format .last) m) ∷ []) n (inl (l, refl))) })
       go false l = record { header = h; last = e; held = o; before = u; closes = rw c; obeyed = rw c (none-more E text e (closeRows text e o) (row 4 (ltb (E .format .last) m) ∷ []) n (l, tt)) }
-  all-rounds q (faults f) h (o, u, b) = inr (record { header = h; held = o; before = u; broken = b })
+  all-rounds q (faults f reason) h (o, u, b) = inr (record { header = h; held = o; before = u; broken = b })
 
   by-header : (code : ℕ) → firstCode (headerRows text) ≡ code → Checked (checkedBy E text (headerBy (byteAt text 3) code))
   unfolding headerRows

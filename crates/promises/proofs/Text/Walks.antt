@@ -29,6 +29,7 @@ use Rattle.survey.specs.declared.Item.the-variants.{Pause, Scan}
 use Rattle.survey.specs.declared.Closing.{Closing}
 use Rattle.survey.specs.declared.Closing.the-variants.{Terminates, CallsOn}
 use Rattle.survey.specs.Items.{stepsOf, exposuresOf}
+use Rattle.survey.specs.declared.Reason.{Reason}
 use Rattle.survey.specs.Walk.{Finding, passes, faults, inFront, commands, walked, walk, rounds, checkedBy, checkOne}
 use Rattle.survey.proofs.Counts.{Start, commands-hops}
 use Rattle.promises.proofs.Text.Sound.{set-some}
@@ -44,7 +45,7 @@ pub data Walking (E : Env) (text : List ℕ) : ℕ → ℕ → Opened → ℕ �
 -- what the walk has found from p on
 unfoldable pub Found : Env → List ℕ → ℕ → Finding → Type 0
 Found E text p (passes k x items e closing) = Body E text p items (closed e closing) × (k ≡ stepsOf text items + 1) × (x ≡ exposuresOf text items)
-Found E text p (faults f) = (items : List Item) × Body E text p items (faulty f)
+Found E text p (faults f reason) = (items : List Item) × Body E text p items (faulty f)
 
 module _ (E : Env) (text : List ℕ) where
   start-next : {p : ℕ} → Start text p → 0 < sizeAt text p → Start text (p + sizeAt text p)
@@ -64,7 +65,7 @@ module _ (E : Env) (text : List ℕ) where
       → (v : Finding) → Found E text p′ v → Found E text p (inFront text i v)
   unfolding Found
   found-item i f (passes k x items e closing) (b, ek, ex) = (f items (closed e closing) b, omega arith, omega arith)
-  found-item i f (faults w) (items, b) = (i ∷ items, f items (faulty w) b)
+  found-item i f (faults w reason) (items, b) = (i ∷ items, f items (faulty w) b)
 
 -- one command of the walk; `go` is the walk of the text after it, and `ih` what that finds
 module _ (E : Env) (text : List ℕ) (f : ℕ) (go : ℕ → Opened → Finding)
@@ -72,7 +73,7 @@ module _ (E : Env) (text : List ℕ) (f : ℕ) (go : ℕ → Opened → Finding)
   -- the loop back of the raster at r: what stands before it is a whole raster
   found-scan : (r p c left t len : ℕ) → Start text r → judge (E .cards) text r Shut ≡ Opens → Line E text r (r + sizeAt text r) 0 len p c → length text ≤ p + suc f
       → InRaster E text r p c (Loops t) → View E text p (Open (placeAt r) c left) (Loops t)
-      → Found E text r (walked text go p (Open (placeAt r) c left) (Loops t))
+      → Found E text r (walked (E .cards) text go p (Open (placeAt r) c left) (Loops t))
   unfolding walked sizeOf
   found-scan r p c left t len (a, s) k l h j (loops m z g) =
       let y = size-some E text p (LoopBack t) m (omega arith) in
@@ -95,7 +96,7 @@ module _ (E : Env) (text : List ℕ) (f : ℕ) (go : ℕ → Opened → Finding)
       (ih (p + sizeAt text p) (p + sizeAt text p) Shut 0 (outside (start-next E text (start-line E text (a, s) k l) y)) (omega arith)))
 
   found-next : (r p : ℕ) (o : Opened) (len : ℕ) (a : Act) → Walking E text r p o len → length text ≤ p + suc f → judge (E .cards) text p o ≡ a → View E text p o a
-      → Found E text r (walked text go p o a)
+      → Found E text r (walked (E .cards) text go p o a)
   unfolding walked Found
   found-next r p o len a (outside s) h j (refused b) = ([], wrong j)
   found-next r p o len a (within {left} s k l) h j (refused b) = ([], torn k l (inside E text left k l j))
@@ -140,9 +141,9 @@ Counted E text k x items e closing =
 
 pub data Read (E : Env) (text : List ℕ) : Finding → Type 0 where
   whole : {k x e : ℕ} {items : List Item} {closing : Closing} → Entered text → Known E closing → Counted E text k x items e closing → Read E text (passes k x items e closing)
-  broken : {f : Fault} {items : List Item} → Entered text → Body E text 4 items (faulty f) → Read E text (faults f)
-  miscalls : {e t : ℕ} {items : List Item} → Entered text → Body E text 4 items (closed e (CallsOn t)) → E .format .last < t → Read E text (faults (fault 4 e))
-  barred : {f : Fault} → headerOf text ≡ Bad f → Read E text (faults f)
+  broken : {f : Fault} {reason : Reason} {items : List Item} → Entered text → Body E text 4 items (faulty f) → Read E text (faults f reason)
+  miscalls : {e t : ℕ} {reason : Reason} {items : List Item} → Entered text → Body E text 4 items (closed e (CallsOn t)) → E .format .last < t → Read E text (faults (fault 4 e) reason)
+  barred : {f : Fault} {reason : Reason} → headerOf text ≡ Bad f → Read E text (faults f reason)
 
 module _ (E : Env) (text : List ℕ) where
   read-rounds : Entered text → (v : Finding) → Found E text 4 v → Read E text (rounds (E .format) (byteAt text 3) v)
@@ -151,7 +152,7 @@ module _ (E : Env) (text : List ℕ) where
   read-rounds h (passes k x items e (CallsOn m)) (b, ek, ex) =
       choice (Read E text) (ltb (E .format .last) m) _ _ (λ l. miscalls h b (ltb-true (E .format .last) m l))
       (λ l. whole h (ltb-false (E .format .last) m l) (b, ap (λ (y : ℕ). 1 + byteAt text 3 * y) ek, ap (λ (y : ℕ). byteAt text 3 * y) ex))
-  read-rounds h (faults f) (items, b) = broken h b
+  read-rounds h (faults f reason) (items, b) = broken h b
 
   pub read-one : Read E text (checkOne E text)
   unfolding checkOne

@@ -1,8 +1,8 @@
 -- What is found from here, with what was seen so far, is what is found from the first place on. The measure is what is left of the text.
 use native.Mathlib.Omega.{arith}
-use Prim.Native.Nat.{ℕ, _+_, _-_, _≤_, _<_}
-use mathlib.Core.Path.{_≡_, refl, sym, ap, _∙_}
-use mathlib.Core.Bool.{Bool, true, false, _||_, false≢true}
+use Prim.Native.Nat.{ℕ, _-_, _≤_, _<_}
+use mathlib.Core.Path.{_≡_, refl, sym, _∙_}
+use mathlib.Core.Bool.{true, false, _||_, false≢true}
 use mathlib.Core.Logic.{⊎-elim, inl, inr}
 use lib.Dec.{eqb}
 use lib.ListN.{length}

@@ -1,9 +1,15 @@
 -- Each way out is the first of the definition's tests that fails, or none.
+use Prim.Native.Nat.{ℕ}
 use native.Mathlib.Omega.{arith}
+use mathlib.Core.Path.{_≡_}
+use mathlib.Core.Bool.{cond, not}
+use mathlib.Core.List.{List}
+use lib.Dec.{eqb}
 use borrow.Author.Tests.{lt-leb, le-leb, eq-eqb, ne-eqb}
 use borrow.Author.Needs.{needs}
+use Rattle.sequence.specs.declared.ListCard.the-variants.{Good, Checksum}
 use Rattle.sequence.specs.LineList.{listCard}
-use Rattle.sequence.proofs.Sums.{part-sum}
+use Rattle.sequence.proofs.Sums.{list-sum}
 use Rattle.sequence.proofs.list_card.Statement.{statement}
 use Rattle.sequence.proofs.list_card.Tie as tie
 
@@ -20,15 +26,22 @@ unfolding listCard
 returns-3 c = let b = c .before .before in
     simp (← b .before .before .byte .ensures, ← b .before .byte2 .ensures, le-leb _ _ (b .if1 .left), le-leb _ _ (c .before .if2 .left), ne-eqb _ _ (c .if3 .taken))
 
+-- past the length what is left of the definition is the checksum: the byte found against the one expected
+module _ (c : tie.After-xor-on) where
+  abbrev l : List ℕ
+  l = c .before .before .before .before .before .before .before .before .before .args .list .now
+
+  by-sum : listCard l ≡ cond (not (eqb (c .before .byte3 .result) (c .xor-on .result))) (Checksum (c .xor-on .result)) Good
+  unfolding listCard
+  by-sum = let a = c .before .before .before in let b = a .before .before in let n = b .before .before .byte in
+      let (f, e) = list-sum l _ (n .result) _ _ (omega arith) (n .ensures) (c .before .before .part .ensures) (c .before .byte3 .ensures) (c .xor-on .ensures) in
+      simp (← n .ensures, ← b .before .byte2 .ensures, le-leb _ _ (b .if1 .left), le-leb _ _ (a .before .if2 .left), eq-eqb _ _ (a .if3 .left), ← f, ← e)
+
 returns-4 : tie.Need-returns-4
-unfolding listCard
-returns-4 c = let a = c .before .before .before in let b = a .before .before in
-    simp (← b .before .before .byte .ensures, ← b .before .byte2 .ensures, le-leb _ _ (b .if1 .left), le-leb _ _ (a .before .if2 .left), eq-eqb _ _ (a .if3 .left), ← part-sum _ _ 3 (b .before .before .byte .result) _ (omega arith) (c .before .before .part .ensures) (c .before .sum-good .ensures), c .if4 .taken)
+returns-4 c = rw (by-sum (c .before), ne-eqb _ _ (c .if4 .taken))
 
 returns-5 : tie.Need-returns-5
-unfolding listCard
-returns-5 c = let a = c .before .before .before in let b = a .before .before in
-    simp (← b .before .before .byte .ensures, ← b .before .byte2 .ensures, le-leb _ _ (b .if1 .left), le-leb _ _ (a .before .if2 .left), eq-eqb _ _ (a .if3 .left), ← part-sum _ _ 3 (b .before .before .byte .result) _ (omega arith) (c .before .before .part .ensures) (c .before .sum-good .ensures), c .if4 .left)
+returns-5 c = rw (by-sum (c .before), eq-eqb _ _ (c .if4 .left))
 
 pub list-card-spec : {M : Type 1} → statement M
 list-card-spec =
@@ -42,6 +55,7 @@ list-card-spec =
     (λ c. search needs)
     returns-3
     (λ c. search needs)
+    (λ c κs. search needs)
     (λ c κs. search needs)
     (λ c κs. search needs)
     returns-4

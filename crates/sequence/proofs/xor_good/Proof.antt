@@ -5,7 +5,7 @@ use Rattle.sequence.proofs.xor_good.Statement.{statement}
 use Rattle.sequence.proofs.xor_good.Tie as tie
 
 returns : tie.Need-returns
-returns c = cc (entry-sum (c .before .before .before .before .before .args .text .now))
+returns c = cc (entry-sum (c .before .before .before .before .before .before .args .text .now))
 
 pub xor-good-spec : {M : Type 1} → statement M
 xor-good-spec =
@@ -16,5 +16,6 @@ xor-good-spec =
     (λ c κs. search needs)
     (λ c κs. search needs)
     (λ c. search needs)
+    (λ c κs. search needs)
     (λ c κs. search needs)
     returns)

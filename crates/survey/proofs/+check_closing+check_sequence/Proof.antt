@@ -4,7 +4,6 @@ use borrow.Author.Needs.{needs}
 use native.Mathlib.Omega.{arith}
 use mathlib.Core.Path.{subst}
 use Rattle.sequence.specs.Env.{envOf}
-use Rattle.survey.specs.Walk.{findingOf}
 use Rattle.survey.specs.Held.{LowCall, unmarked}
 use Rattle.survey.proofs.Chains.{room, Visit, of-entry, close-stop, close-back, close-next, seq-fault, next-low, next-fits, next-kept, next-fewer, seq-next}
 use Prim.Native.Nat.{ℕ, _+_, _<_}
@@ -66,16 +65,16 @@ check-closing-element-copy-out-if1 : (t : ℕ) → check-closing-lts.Need-elemen
 check-closing-element-copy-out-if1 t c = let s = c .before .before .before .before .before in let a = s .args in let l = (subst LowCall (c .before .closing .given .1) (s .pre .1 .2)) in omega (arith, s .pre .1 .1 .marks-long)
 
 check-closing-returns : (t : ℕ) → check-closing-lts.Need-returns (check-closing-calls t) (check-closing-at t) check-closing.Post
-check-closing-returns t c = let s = c .before .before .before .before .before .before .before in let a = s .args in close-back (findingOf (envOf (a .format) (a .lists .now)) (a .seqs .now)) (a .t4) (a .closing) _ (c .before .before .before .closing .given .1) (subst LowCall (c .before .before .before .closing .given .1) (s .pre .1 .2)) (c .if1 .taken)
+check-closing-returns t c = let s = c .before .before .before .before .before .before .before in let a = s .args in close-back (envOf (a .format) (a .lists .now)) (a .seqs .now) (a .t4) (a .closing) _ (c .before .before .before .closing .given .1) (subst LowCall (c .before .before .before .closing .given .1) (s .pre .1 .2)) (c .if1 .taken)
 
 check-closing-check-sequence-requires : (t : ℕ) → check-closing-lts.Need-check-sequence-requires (check-closing-calls t) (check-closing-at t) check-closing.Post
 check-closing-check-sequence-requires t c κs = let s = c .before .before .before .before .before .before .before in let a = s .args in (omega (arith, s .pre .0), (s .pre .1 .0, record { kept = s .pre .1 .1; low = subst LowCall (c .before .before .before .closing .given .1) (s .pre .1 .2); new = c .if1 .left }))
 
 check-closing-returns-2 : (t : ℕ) → check-closing-lts.Need-returns-2 (check-closing-calls t) (check-closing-at t) check-closing.Post
-check-closing-returns-2 t c = let s = c .before .before .before .before in let a = s .args in close-stop (findingOf (envOf (a .format) (a .lists .now)) (a .seqs .now)) (a .t4) (a .closing) (c .enum-told .given .1)
+check-closing-returns-2 t c = let s = c .before .before .before .before in let a = s .args in close-stop (envOf (a .format) (a .lists .now)) (a .seqs .now) (a .t4) (a .closing) (c .enum-told .given .1)
 
 check-closing-returns-3 : (t : ℕ) → check-closing-lts.Need-returns-3 (check-closing-calls t) (check-closing-at t) check-closing.Post
-check-closing-returns-3 t c = let s = c .before .before .before .before .before .before .before .before in let a = s .args in close-next (findingOf (envOf (a .format) (a .lists .now)) (a .seqs .now)) (a .t4) (a .closing) _ (c .before .before .before .before .closing .given .1) _ (c .check-sequence .ensures)
+check-closing-returns-3 t c = let s = c .before .before .before .before .before .before .before .before in let a = s .args in close-next (envOf (a .format) (a .lists .now)) (a .seqs .now) (a .t4) (a .closing) _ (c .before .before .before .before .closing .given .1) _ (c .check-sequence .ensures)
 
 -- what is known past the check of the sequence's own text
 module _ (t : ℕ) (w : check-sequence-lts.After-check-text (check-sequence-calls t) (check-sequence-at t) check-sequence.Post) where

@@ -8,12 +8,12 @@ use Rattle.survey.proofs.check.Statement.{statement}
 use Rattle.survey.proofs.check.Tie as tie
 
 returns : tie.Need-returns
-returns c = let w = c .before .before in let a = w .before .before .before .before .before .args in
-    check-wrong flight (a .seqs .now) (a .lists .now) (a .number) _ (w .before .empty .ensures) _ (w .tables-wrong .ensures) _ (c .before .if1 .taken) (c .report .ensures)
+returns c = let w = c .before .before in let f = w .before .before in let a = f .before .before .before .args in
+    check-wrong flight (a .seqs .now) (a .lists .now) (a .number) _ (w .before .empty .ensures) _ (w .tables-wrong .ensures) _ (c .before .if1 .taken) (rw (f .flight .ensures) at (c .report .ensures))
 
 returns-2 : tie.Need-returns-2
 returns-2 c = let w = c .before .before .before .before in let f = w .before .before in let a = f .before .before .before .args in
-    check-high flight (a .seqs .now) (a .lists .now) (a .number) _ (w .before .empty .ensures) _ (w .tables-wrong .ensures) _ (c .before .before .before .if1 .left) (rw (f .flight .ensures) at (c .before .if2 .taken)) (c .report2 .ensures)
+    check-high flight (a .seqs .now) (a .lists .now) (a .number) _ (w .before .empty .ensures) _ (w .tables-wrong .ensures) _ (c .before .before .before .if1 .left) (rw (f .flight .ensures) at (c .before .if2 .taken)) (rw (f .flight .ensures) at (c .report2 .ensures))
 
 check-sequence-requires : tie.Need-check-sequence-requires
 check-sequence-requires c κs = let e = c .before .before .before .before in let f = e .before in
@@ -22,7 +22,7 @@ check-sequence-requires c κs = let e = c .before .before .before .before in let
 
 returns-3 : tie.Need-returns-3
 returns-3 c = let w = c .before .before .before .before .before in let f = w .before .before in let a = f .before .before .before .args in
-    check-runs flight (a .seqs .now) (a .lists .now) (a .number) _ (w .before .empty .ensures) _ (w .tables-wrong .ensures) _ refl (c .before .before .before .before .if1 .left) (rw (f .flight .ensures) at (c .before .before .if2 .left)) _ (rw (f .flight .ensures) at (c .before .check-sequence .ensures)) (c .report3 .ensures)
+    check-runs flight (a .seqs .now) (a .lists .now) (a .number) _ (w .before .empty .ensures) _ (w .tables-wrong .ensures) _ refl (c .before .before .before .before .if1 .left) (rw (f .flight .ensures) at (c .before .before .if2 .left)) _ (rw (f .flight .ensures) at (c .before .check-sequence .ensures)) (rw (f .flight .ensures) at (c .report3 .ensures))
 
 pub check-spec : {M : Type 1} → statement M
 check-spec =
