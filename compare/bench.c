@@ -179,7 +179,7 @@ static void start(bool running)
 static void chain_row(unsigned n)
 {
     char name[40];
-    make_ring(seqs, lists, n);
+    make_ring(seqs, lists, n, 0);
     snprintf(name, sizeof name, "check, a sequence of a chain of %u", n);
     row_of_many(name, keel_one_check, plain_one_check, n);
 }
@@ -208,7 +208,7 @@ int main(int argc, char **argv)
         count.keel = argv[2][0] == 'k';
         count.times = strtoul(argv[3], NULL, 10);
     }
-    make_ring(seqs, lists, 128);
+    make_ring(seqs, lists, 128, 0);
     memcpy(uplink + 5, seqs, 128);
     start(false);
     packet_row("status", status, sizeof status);
@@ -230,5 +230,8 @@ int main(int argc, char **argv)
     chain_row(16);
     chain_row(64);
     chain_row(128);
+    make_ring(seqs, lists, 128, PLAIN_AEC);
+    step_row("step: run raster with a flag", PLAIN_RASTER, 8);
+    row("check of 128, a flag in each raster", keel_one_check, plain_one_check);
     return 0;
 }

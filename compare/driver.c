@@ -37,7 +37,7 @@ static struct {
 /* What has been seen. */
 static struct {
     unsigned long power_on, packets, steps, checks, runs, turns;
-    unsigned long codes[18], events[12], aborts[16], passes[3], faults[16], reasons[4], refused[17];
+    unsigned long codes[18], events[12], aborts[16], passes[3], faults[16], reasons[5], refused[17];
     unsigned longest_chain;
 } seen;
 
@@ -320,7 +320,7 @@ static void show_counts(void)
     printf("  ends: %lu  returns: %lu  longest chain: %u\n", seen.passes[PLAIN_ENDS], seen.passes[PLAIN_RETURNS],
            seen.longest_chain);
     row("faults by code", seen.faults, 16);
-    row("faults by reason", seen.reasons, 4);
+    row("faults by reason", seen.reasons, 5);
     row("refused by code", seen.refused, 17);
     printf("long runs  %10lu, of %lu turns in all\n", seen.runs, seen.turns);
 }

@@ -61,13 +61,24 @@ static uint8_t xor_over(const uint8_t *p, size_t n)
 
 /* ---- Line lists ---- */
 
+/* Gives one window all marks; seldom takes some of them away from every window within the count. */
+static void choose_marks(uint8_t *list, unsigned windows, unsigned damage)
+{
+    unsigned taken = chance(2 + damage) ? any(8) << 2 : 0;
+
+    list[14 + 6 * any(windows) + 1] |= 0x1C;
+    for (unsigned w = 0; w < windows; w++)
+        list[14 + 6 * w + 1] &= (uint8_t)~taken;
+}
+
 size_t make_line_list(uint8_t *list, unsigned damage)
 {
     unsigned windows = between(1, 25), length;
 
+    noise_at(list, LIST_ENTRY);
+    choose_marks(list, windows, damage);
     if (chance(damage))
         windows = chance(50) ? 26 : any(2) * 255;
-    noise_at(list, LIST_ENTRY);
     length = (14 + 6 * windows) & 0xFF;
     if (chance(damage))
         length = (length + (chance(50) ? 1 : 255)) & 0xFF;
@@ -135,8 +146,8 @@ static unsigned few_or_many(unsigned few, unsigned most)
 /* A run raster's 23 bytes. */
 static void put_run_raster(uint8_t *r, unsigned exposures, unsigned damage)
 {
-    static const uint8_t flags[] = {0, 0, 0, 0x20, 0x10, 0x08, 0x04};
-    static const uint8_t two_flags[] = {0x30, 0x18, 0x0C, 0x24, 0x3C, 0x28};
+    static const uint8_t flags[] = {0, 0, 0, 0x20, 0x10, 0x08, 0x04, 0x30};
+    static const uint8_t two_flags[] = {0x18, 0x0C, 0x24, 0x28, 0x14, 0x38, 0x34, 0x3C};
     unsigned loops = few_or_many(4, 65535);
     unsigned repeats = few_or_many(3, 4095);
     unsigned step = chance(20) ? 0 : any(END_STOP / loops + 1);
@@ -351,7 +362,7 @@ static uint8_t *put(uint8_t *at, const uint8_t *bytes, size_t n)
     return at + n;
 }
 
-static void put_full_sequence(uint8_t *text, unsigned next)
+static void put_full_sequence(uint8_t *text, unsigned next, unsigned flags)
 {
     static const uint8_t raster[] = {0x90, 0, 7, 0, 100, 0, 2, 0, 0, 0, 0, 2, 1, 1, 0, 0xF0, 2, 0, 3, 0, 10, 0, 0};
     static const uint8_t delay[] = {0x95, 0, 5}, expose[] = {0x91, 0, 100};
@@ -361,6 +372,7 @@ static void put_full_sequence(uint8_t *text, unsigned next)
     text[3] = 1;
     for (unsigned k = 0; k < 4; k++) {
         at = put(at, raster, sizeof raster);
+        at[-1] = (uint8_t)flags;
         if (k > 0)
             at = put(at, delay, sizeof delay);
         at = put(at, expose, sizeof expose);
@@ -373,14 +385,15 @@ static void put_full_sequence(uint8_t *text, unsigned next)
     *at = xor_over(text, ENTRY - 1);
 }
 
-void make_ring(uint8_t *seqs, uint8_t *lists, unsigned n)
+void make_ring(uint8_t *seqs, uint8_t *lists, unsigned n, unsigned flags)
 {
     memset(lists, 0, LIST_ENTRY);
     lists[0] = LIST_ENTRY;
     lists[2] = 25;
+    lists[LIST_ENTRY - 5] = (uint8_t)flags;
     lists[3] = xor_over(lists, LIST_ENTRY);
     for (unsigned i = 0; i < n; i++)
-        put_full_sequence(seqs + ENTRY * i, (i + 1) % n);
+        put_full_sequence(seqs + ENTRY * i, (i + 1) % n, flags);
 }
 
 /* ---- States ---- */

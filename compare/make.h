@@ -27,8 +27,9 @@ void make_taste(unsigned sequences, unsigned lists);
 void make_tables(uint8_t *seqs, uint8_t *lists);
 
 /* A ring of full sequences, 0 to n - 1, each 128 bytes with four rasters, 2 repeats of 2 loops of an
- * exposure each, and delays; and line list 0, full with 25 windows. Nothing in it is random. */
-void make_ring(uint8_t *seqs, uint8_t *lists, unsigned n);
+ * exposure each, and delays; and line list 0, full with 25 windows. All rasters have these science flags,
+ * and the last window alone has the marks for them. Nothing in it is random. */
+void make_ring(uint8_t *seqs, uint8_t *lists, unsigned n, unsigned flags);
 
 /* One line list in an entry of 164 bytes, one sequence in an entry of 128; both return its length. */
 size_t make_line_list(uint8_t *list, unsigned damage);

@@ -107,9 +107,18 @@ enum {
     SEQUENCE_REPEATS = 3,
     FIRST_COMMAND = 4,
     MOST_EXPOSURES = 8,
-    END_STOP = 2400,
-    SCIENCE_FLAGS = 0x3C
+    END_STOP = 2400
 };
+
+/* The science flags: the XRT flare trigger, and those that need a mark. */
+enum {
+    XRT = 0x20,
+    MARKED = PLAIN_AEC | PLAIN_EVENT | PLAIN_FLARE,
+    SCIENCE_FLAGS = XRT | MARKED
+};
+
+/* A line list's windows: where they begin, and the bytes of one. */
+enum { WINDOWS_AT = 14, WINDOW = 6 };
 
 static unsigned word(const uint8_t *p)
 {
@@ -399,7 +408,7 @@ struct plain_reason plain_line_list(const uint8_t *list)
     unsigned windows = list[2], off;
     if (windows < 1 || windows > 25) {
         reason.number = PLAIN_WINDOWS;
-    } else if (list[0] != 14 + 6 * windows) {
+    } else if (list[0] != WINDOWS_AT + WINDOW * windows) {
         reason.number = PLAIN_LENGTH;
     } else if ((off = xor_of(list, list[0])) != 0) {
         /* With a right byte 3 the whole comes to 0; else to the bits in which byte 3 is wrong. */
@@ -407,6 +416,21 @@ struct plain_reason plain_line_list(const uint8_t *list)
         reason.expected = (uint8_t)(list[3] ^ off);
     }
     return reason;
+}
+
+/* A window begins with its header, high byte first. */
+unsigned plain_marks(const uint8_t *list)
+{
+    unsigned marks = 0, end = list[0];
+    for (unsigned low = WINDOWS_AT + 1; low < end; low += WINDOW)
+        marks |= list[low];
+    return marks & MARKED;
+}
+
+/* One flag or none, or the XRT trigger with AEC. */
+static bool flags_good(unsigned flags)
+{
+    return (flags & (flags - 1)) == 0 || flags == (XRT | PLAIN_AEC);
 }
 
 /* The entering of a sequence: its code, or 0; a fault sets *place. */
@@ -423,20 +447,23 @@ static unsigned entry_fault(const uint8_t *text, unsigned *place)
 /* A run raster's own tests, in the paper's order, once no other raster is open. */
 static unsigned raster_fault(const uint8_t *r, const uint8_t *lists)
 {
-    unsigned flags = raster_flags(r);
+    const uint8_t *list = lists + LINE_LIST_ENTRY * raster_list(r);
+    unsigned flags = raster_flags(r), needed = flags & MARKED;
     if (raster_loops(r) == 0 || raster_repeats(r) == 0)
         return NO_LOOPS;
     if (raster_exposures(r) < 1 || raster_exposures(r) > MOST_EXPOSURES)
         return BAD_EXPOSURES;
     if (raster_list(r) > LAST_LINE_LIST)
         return BAD_LIST_NUMBER;
-    if (plain_line_list(lists + LINE_LIST_ENTRY * raster_list(r)).number != PLAIN_GOOD)
+    if (plain_line_list(list).number != PLAIN_GOOD)
         return BAD_LINE_LIST;
     if (raster_initial(r) > END_STOP || raster_step(r) > END_STOP ||
         raster_initial(r) + (raster_loops(r) - 1) * raster_step(r) > END_STOP)
         return PAST_END_STOP;
-    if (raster_asrc(r) != 0 || (flags & (flags - 1)) != 0)
+    if (raster_asrc(r) != 0 || !flags_good(flags))
         return BAD_COMMAND;
+    if (needed != 0 && (needed & ~plain_marks(list)) != 0)
+        return BAD_LINE_LIST;
     return 0;
 }
 
@@ -657,6 +684,15 @@ static uint64_t raster_total(const uint8_t *r)
     return (uint64_t)raster_loops(r) * raster_exposures(r) * raster_repeats(r);
 }
 
+/* Why a run raster is refused for its line list; if that is good, a mark is missing. */
+static struct plain_reason list_reason(const uint8_t *list)
+{
+    struct plain_reason reason = plain_line_list(list);
+    if (reason.number == PLAIN_GOOD)
+        reason.number = PLAIN_MARK;
+    return reason;
+}
+
 /* Applies the rules to one sequence in text order: its first fault's code, or 0. */
 static unsigned check_sequence(const uint8_t *text, const uint8_t *lists, struct finding *f)
 {
@@ -681,7 +717,7 @@ static unsigned check_sequence(const uint8_t *text, const uint8_t *lists, struct
             set = 0;
             code = raster_fault(raster, lists);
             if (code == BAD_LINE_LIST)
-                f->reason = plain_line_list(lists + LINE_LIST_ENTRY * raster_list(raster));
+                f->reason = list_reason(lists + LINE_LIST_ENTRY * raster_list(raster));
             if (code != 0)
                 return code;
             break;

@@ -1,7 +1,8 @@
 /*
- * The control unit in plain C, written from document 01 alone, P4's reasons added: it shares no text
- * with the proved library, and stands beside it to be compared. The four calls, the lent bytes and the
- * answers are those of keel.h, under other names; the test of a line list is for the desk's table check.
+ * The control unit in plain C, written from document 01 alone, P4's reasons and P1's marks added: it
+ * shares no text with the proved library, and stands beside it to be compared. The four calls, the lent
+ * bytes and the answers are those of keel.h, under other names; the test of a line list and its marks are
+ * for the desk's table check.
  */
 #ifndef PLAIN_H
 #define PLAIN_H
@@ -37,8 +38,11 @@ enum {
 /* How a check ended: byte 1 of its report. */
 enum { PLAIN_NOTHING, PLAIN_ENDS, PLAIN_RETURNS, PLAIN_FAULT };
 
-/* What is wrong with a line list: byte 4 of a report. */
-enum { PLAIN_GOOD, PLAIN_WINDOWS, PLAIN_LENGTH, PLAIN_CHECKSUM };
+/* What is wrong with a line list: byte 4 of a report. The last is the raster's, over a list that is good. */
+enum { PLAIN_GOOD, PLAIN_WINDOWS, PLAIN_LENGTH, PLAIN_CHECKSUM, PLAIN_MARK };
+
+/* The flags that need a marked window; their marks are the same bits of a window header's low byte. */
+enum { PLAIN_AEC = 0x10, PLAIN_EVENT = 0x08, PLAIN_FLARE = 0x04 };
 
 /* Why a line list is bad; the checksum expected where that is wrong, else 0. */
 struct plain_reason {
@@ -70,5 +74,8 @@ uint32_t plain_check(const uint8_t *seqs, size_t seqs_len,
 
 /* Tests a line list, in its entry of 164 bytes. */
 struct plain_reason plain_line_list(const uint8_t *list);
+
+/* The marks that the windows of a good line list have among them. */
+unsigned plain_marks(const uint8_t *list);
 
 #endif

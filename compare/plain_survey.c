@@ -35,21 +35,39 @@ static unsigned long long total(const uint8_t *at)
     return value;
 }
 
-/* The end of a line about a bad line list; nothing, if it is good. */
+/* The end of a line about a bad line list, or a raster that misses a mark; nothing, if it is good. */
 static void print_reason(unsigned number, unsigned expected)
 {
-    static const char *const names[] = {"", " REASON count", " REASON length", " REASON checksum"};
+    static const char *const names[] = {"", " REASON count", " REASON length", " REASON checksum", " REASON mark"};
     printf("%s", names[number]);
     if (number == PLAIN_CHECKSUM)
         printf(" %02X", expected);
     putchar('\n');
 }
 
+/* The header bits that are marked, or a dash. */
+static void print_marks(unsigned marks)
+{
+    static const uint8_t bits[] = {PLAIN_AEC, PLAIN_EVENT, PLAIN_FLARE};
+    const char *before = " ";
+    if (marks == 0)
+        printf(" -");
+    for (int i = 0; i < 3; i++) {
+        if (marks & bits[i]) {
+            printf("%s%d", before, 11 + i);
+            before = ",";
+        }
+    }
+}
+
 static void survey_lists(const uint8_t *lists)
 {
     for (int i = 0; i < LISTS; i++) {
-        struct plain_reason reason = plain_line_list(lists + LIST_ENTRY * i);
+        const uint8_t *list = lists + LIST_ENTRY * i;
+        struct plain_reason reason = plain_line_list(list);
         printf("LIST %d %s", i, reason.number == PLAIN_GOOD ? "GOOD" : "BAD");
+        if (reason.number == PLAIN_GOOD)
+            print_marks(plain_marks(list));
         print_reason(reason.number, reason.expected);
     }
 }

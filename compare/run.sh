@@ -11,7 +11,7 @@
 # By name alone:
 #   baseline         the same as bench, and its rows are kept in compare/baseline.txt
 #   vectors FOLDER   the proved programs on the folder's desk-N.in and tables-N.bin; says how many are equal, the reasons of faults
-#                    with code 7 left out
+#                    with code 7 left out, and how many were moved by a request: those that are as the plain programs have them
 #   counts           one table of instructions, proved and plain, counted by the emulator: the same on every machine that has it
 #   unproved STAGE.. library, bench and counts take the library as its sources stand, compiled without its proofs
 # All programs are for x86-64, built by the same compiler as the proved ones, and run with its C library;
@@ -50,7 +50,7 @@ assemble() { # PROGRAM FILE..
 }
 
 as_keel=(-Dplain_power_on=keel_power_on -Dplain_packet=keel_packet -Dplain_step=keel_step -Dplain_check=keel_check
-    -Dplain_line_list=keel_line_list)
+    -Dplain_line_list=keel_line_list -Dplain_marks=keel_marks)
 
 build_plain() {
     mkdir -p "$build"
@@ -203,7 +203,7 @@ stage_counts() {
     local row name things side one
     [ -n "$emulated" ] || { echo "run.sh: counts wants the emulator" >&2; return 2; }
     build_library
-    for row in {0..16}; do
+    for row in {0..18}; do
         IFS=$'\t' read -r name things < <(run "$build/library/bench" "$row" k 0)
         one="$name"
         for side in k p; do
@@ -249,23 +249,32 @@ stage_surveys() {
     echo "surveys: equal output on 8 tables, their line lists, odd words and tables of wrong size"
 }
 
-# Runs PROGRAM on INPUT and counts it; it is equal if it writes what WANTED has. The tables' answers are document 01's: the reason,
-# which P4 puts at the end of a fault with code 7, is cut off there and nowhere else.
-vector() { # PROGRAM INPUT WANTED
+# Runs PROGRAM on INPUT and counts it. WANTED is document 01's: the reason, which P4 puts at the end of a fault with code 7, is cut off
+# there and nowhere else. Equal if that is what it writes; moved if not, but the PLAIN program, which has P1's rules too, writes the same.
+vector() { # PROGRAM PLAIN INPUT WANTED
+    local got=$build/vector.out
     all=$((all + 1))
-    if run "target/bin/$1" <"$2" | sed '/^FAULT [^ ]* 7 /s/ REASON .*//' | cmp -s - "$3"; then equal=$((equal + 1)); else echo "$2: not equal"; fi
+    run "target/bin/$1" <"$3" >"$got"
+    if sed '/^FAULT [^ ]* 7 /s/ REASON .*//' "$got" | cmp -s - "$4"; then
+        equal=$((equal + 1))
+    elif run "$build/$2" <"$3" | cmp -s - "$got"; then
+        moved=$((moved + 1))
+        echo "${3##*/}: moved, $(sed '/^FAULT [^ ]* 7 /s/ REASON .*//' "$got" | diff "$4" - | grep -c '^>') of $(wc -l <"$4") lines"
+    else
+        echo "${3##*/}: not equal"
+    fi
 }
 
 stage_vectors() { # FOLDER
-    local all=0 equal=0 file number
+    local all=0 equal=0 moved=0 file number
     rt check desk tablecheck
-    for file in "$1"/desk-*.in; do vector desk "$file" "${file%.in}.out"; done
+    for file in "$1"/desk-*.in; do vector desk plain_desk "$file" "${file%.in}.out"; done
     for file in "$1"/tables-*.bin; do
         number=${file##*/tables-}
-        vector tablecheck "$file" "$1/survey-${number%.bin}.out"
+        vector tablecheck plain_survey "$file" "$1/survey-${number%.bin}.out"
     done
-    echo "vectors: $equal of $all equal, but for the reasons at the ends of the faults with code 7"
-    [ "$equal" = "$all" ]
+    echo "vectors: $equal of $all equal, but for the reasons at the ends of the faults with code 7; $moved moved, as the plain programs"
+    [ $((equal + moved)) = "$all" ]
 }
 
 [ $# -gt 0 ] || set -- plain self library desks surveys bench

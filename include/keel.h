@@ -40,9 +40,10 @@ uint32_t keel_packet(uint8_t *state, uintptr_t state_len, uint8_t *seqs, uintptr
 uint64_t keel_step(uint8_t *state, uintptr_t state_len, const uint8_t *seqs, uintptr_t seqs_len, const uint8_t *lists, uintptr_t lists_len);
 
 /* The table check of a sequence. Answers its code and fills a report of 152 bytes (another size: 16, untouched): 0 code; 1: 0 nothing
-   listed, 1 ends, 2 returns, 3 fault; 2 the fault's sequence; 3 its place; 4 what is wrong with the line list of a fault with code 7: 1 the
-   window count, 2 the length, 3 the checksum (0: any other fault, or none); 5 the checksum expected, 0 unless 4 is 3; 6-7 how many are
-   listed; 8-15 steps; 16-23 exposures, high byte first; 24-151 the chain, zeros after it. */
+   listed, 1 ends, 2 returns, 3 fault; 2 the fault's sequence; 3 its place; 4 why, of a fault with code 7: 1 the line list's window count,
+   2 its length, 3 its checksum, 4 a mark that a flag of the raster needs and no window of the list has (0: any other fault, or none); 5 the
+   checksum expected, 0 unless 4 is 3; 6-7 how many are listed; 8-15 steps; 16-23 exposures, high byte first; 24-151 the chain, zeros
+   after it. */
 uint32_t keel_check(const uint8_t *seqs, uintptr_t seqs_len, const uint8_t *lists, uintptr_t lists_len, uint32_t number,
                     uint8_t *report, uintptr_t report_len);
 

@@ -95,6 +95,11 @@ bears-first (r ∷ rs) k (inr (h, f)) = rw h (bears-first rs k f)
 pub code-exactly : (rs : List Row) (k : ℕ) → 0 < k → (firstCode rs ≡ k) ↔ FirstBears k rs
 code-exactly rs k h = (first-bears rs k h, bears-first rs k)
 
+-- rows of which none holds say nothing in front of others
+pub none-skipped : (xs ys : List Row) → NoneHolds xs → firstCode (xs ++ ys) ≡ firstCode ys
+none-skipped [] ys n = refl
+none-skipped (r ∷ rs) ys (e, n) = rw e (none-skipped rs ys n)
+
 -- where no row of two tables one after the other holds, none of either does
 pub none-split : (xs ys : List Row) → NoneHolds (xs ++ ys) → NoneHolds xs × NoneHolds ys
 none-split [] ys h = (tt, h)

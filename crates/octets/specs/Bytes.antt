@@ -1,6 +1,8 @@
--- Bytes, words high byte first, in and out, and the XOR of bytes.
-use Prim.Native.Nat.{ℕ, _+_, _*_, _/_, _%_, _^_}
+-- Bytes, words high byte first, in and out, their bits, and the XOR of bytes.
+use Prim.Native.Nat.{ℕ, _+_, _*_, _-_, _/_, _%_, _^_}
+use mathlib.Core.Bool.{Bool}
 use mathlib.Core.List.{List, [], _∷_}
+use lib.Dec.{eqb}
 use lib.ListN.{getD}
 use lib.Bits.{bitXor}
 
@@ -38,6 +40,13 @@ eight n =
     ∷ n / 2 ^ 8 % 256
     ∷ n % 256
     ∷ []
+
+-- "Bit 0 is the most significant bit": whether bit b of a byte, or of a word, is set
+abbrev pub byteBit : ℕ → ℕ → Bool
+byteBit b n = eqb (n / 2 ^ (7 - b) % 2) 1
+
+abbrev pub wordBit : ℕ → ℕ → Bool
+wordBit b n = eqb (n / 2 ^ (15 - b) % 2) 1
 
 -- "bits 0-3" and "bits 4-7": bit 0 is the most significant
 abbrev pub halves : ℕ → ℕ → ℕ

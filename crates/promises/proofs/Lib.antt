@@ -10,6 +10,7 @@
 --   Decided        from Demand3: the check can tell nothing else
 --   Refuted        from Decided, and by computing over the sample tables (sequence/proofs): the wrong libraries that document 01 names keep no such demand
 --   Flight         the flight unit's format is one of those that Demand3, EveryLap and Decided speak of
+--   Flags          by computing: the answer for every science byte over every set of marks
 --   Samples        by computing
 --   OneAnswer      from the contracts: one answer for each call; TheCode: the demands, for the code
 pub mod Text
@@ -26,6 +27,7 @@ pub mod Demand3
 pub mod EveryLap
 pub mod Decided
 pub mod Flight
+pub mod Flags
 pub mod Samples
 pub mod Refuted
 pub mod OneAnswer

@@ -41,8 +41,12 @@ use Rattle.promises.specs.OneAnswer.{
   OneSequenceCommandAt,
   OneSequenceRasterAt,
   OneSequenceFlagsGood,
+  OneSequenceNeedsMark,
+  OneSequenceMarksLack,
   OneSequenceListCard,
+  OneSequenceBadListShown,
   OneSequenceListCardShown,
+  OneSequenceListCardMarks,
   OneSequencePast,
   OneSequenceTargetGood,
   OneRunnerJudge,
@@ -226,8 +230,20 @@ one-result-sequence-flags-good κs a r r′ e e′ p q = p ∙ sym q
 pub one-result-sequence-list-card : OneSequenceListCard
 one-result-sequence-list-card κs a r r′ e e′ p q = p ∙ sym q
 
+pub one-result-sequence-needs-mark : OneSequenceNeedsMark
+one-result-sequence-needs-mark κs a r r′ e e′ p q = p ∙ sym q
+
+pub one-result-sequence-Marks-lack : OneSequenceMarksLack
+one-result-sequence-Marks-lack κs a r r′ e e′ p q = p ∙ sym q
+
+pub one-result-sequence-BadList-shown : OneSequenceBadListShown
+one-result-sequence-BadList-shown κs a r r′ e e′ p q = p ∙ sym q
+
 pub one-result-sequence-ListCard-shown : OneSequenceListCardShown
 one-result-sequence-ListCard-shown κs a r r′ e e′ p q = p ∙ sym q
+
+pub one-result-sequence-ListCard-marks : OneSequenceListCardMarks
+one-result-sequence-ListCard-marks κs a r r′ e e′ p q = p ∙ sym q
 
 pub one-result-sequence-past : OneSequencePast
 one-result-sequence-past κs a r r′ e e′ p q = p ∙ sym q

@@ -13,8 +13,8 @@ use Rattle.memory.specs.declared.Format.{Format}
 use Rattle.memory.specs.Memory.{flight, tablesWrong, rangeOf, rangeAt}
 use Rattle.sequence.specs.Text.{fault, limit, lengthGood, xorGood, headerRows, headerOf, sizeOf, decoded, noneThere, commandAt, sizeAt}
 use Rattle.sequence.specs.Starts.{starts, startsOf, among, exposesBetween, firstExposure, targetGood}
-use Rattle.sequence.specs.Raster.{rasterAt, flagsGood, somePast}
-use Rattle.sequence.specs.LineList.{checksumOf, listCard}
+use Rattle.sequence.specs.Raster.{rasterAt, flagsGood, markMissing, somePast}
+use Rattle.sequence.specs.LineList.{checksumOf, marked, marksOf, listCard}
 use Rattle.sequence.specs.Env.{envOf}
 use Rattle.sequence.proofs.SampleTables.{seqs, lists, ends, calls, lineList, fields, raster}
 use Rattle.runner.specs.declared.Runner.{Runner}
@@ -261,7 +261,7 @@ refuted =
 
 -- ── misreadings: the exposure that is misplaced, and where the plan has it
 pub misread-refuted : MisreadRefuted
-unfolding xorOn tablesWrong rangeOf rangeAt limit lengthGood xorGood headerRows headerOf sizeOf decoded noneThere commandAt sizeAt starts startsOf among exposesBetween firstExposure targetGood rasterAt flagsGood somePast checksumOf listCard pathRows rasterRows runRows exposeRows loopRows closeRows judged judge aborted entered begun advances exposed looped ended act stepIn stepOf walked walk checkOne onward follow chainOf checkRows checkOf powerOn runsWrong rangeTests outOfRange moded selected telecommandOf ownRows lentWrong packetRows codeOf effect obeyedUnit refusedUnit unitAfter answerOf seqsAfter listsAfter stepRows withStep unitStep
+unfolding xorOn tablesWrong rangeOf rangeAt limit lengthGood xorGood headerRows headerOf sizeOf decoded noneThere commandAt sizeAt starts startsOf among exposesBetween firstExposure targetGood rasterAt flagsGood markMissing somePast checksumOf marked marksOf listCard pathRows rasterRows runRows exposeRows loopRows closeRows judged judge aborted entered begun advances exposed looped ended act stepIn stepOf walked walk checkOne onward follow chainOf checkRows checkOf powerOn runsWrong rangeTests outOfRange moded selected telecommandOf ownRows lentWrong packetRows codeOf effect obeyedUnit refusedUnit unitAfter answerOf seqsAfter listsAfter stepRows withStep unitStep
 misread-refuted =
     record {
       mirror-each-exposure =

@@ -12,8 +12,8 @@ use Rattle.sequence.specs.declared.RasterWords.{RasterWords}
 use Rattle.sequence.specs.declared.ReasonNumbers.{ReasonNumbers}
 use Rattle.sequence.specs.Text.{limit, lengthGood, xorGood, headerRows, headerOf, sizeOf, decoded, noneThere, commandAt, sizeAt}
 use Rattle.sequence.specs.Starts.{starts, startsOf, among, exposesBetween, firstExposure, targetGood}
-use Rattle.sequence.specs.Raster.{rasterAt, flagsGood, somePast}
-use Rattle.sequence.specs.LineList.{checksumOf, listCard, cardShown}
+use Rattle.sequence.specs.Raster.{rasterAt, flagsGood, markMissing, somePast}
+use Rattle.sequence.specs.LineList.{checksumOf, marked, marksOf, listCard, cardShown}
 use Rattle.sequence.specs.Env.{cardsOf, envOf}
 use Rattle.sequence.proofs.SampleTables.{seqs, lists, ends, calls, lineList, fields, raster, rasterAtPosition, theRaster}
 use Rattle.runner.specs.declared.Runner.{Runner}
@@ -50,7 +50,7 @@ abbrev seenIn : ℕ → List ℕ → List ℕ → List ℕ
 seenIn steps sequence list = positionsSeen (sightsOf (envOf flight (lists list)) (seqs sequence) steps started)
 
 -- what is wrong with a line list: 0 nothing, 1 window count, 2 length, 3 checksum; and the checksum expected. Of line list 0; and as the reason of
--- the fault that the check of sequence 0 tells, in front of what it tells
+-- the fault that the check of sequence 0 tells, in front of what it tells; 4 is a missing mark
 abbrev reasonNumbers : ReasonNumbers → List ℕ
 reasonNumbers r = r .number ∷ r .value ∷ []
 
@@ -78,6 +78,13 @@ repliedTo packet = replyOf flight powerOn 0 (seqs []) (lists []) (seqs []) packe
 -- document 01's line list with another checksum
 abbrev badSum : List ℕ
 badSum = set (lineList 1) 3 0x6F
+
+-- document 01's raster sequence with these science flags, and its line list with another low byte of its window's header; each with its checksum
+abbrev flagged : ℕ → ℕ → List ℕ
+flagged science sum = raster 0x22 (fields 0x00 0x64 3 1 2 0 science) 1 sum
+
+abbrev markedList : ℕ → ℕ → List ℕ
+markedList low sum = set (set (lineList 1) 15 low) 3 sum
 
 -- every field of a raster, word by word
 abbrev wordNumbers : RasterWords → List ℕ
@@ -109,8 +116,16 @@ samples =
     ∷ sample (checked (rasterAtPosition 0x09 0x4C 0xE1) (lineList 1)) (1 ∷ 0 ∷ 0 ∷ 0 ∷ 16 ∷ 6 ∷ 0 ∷ [])
     ∷ sample (checked (rasterAtPosition 0x09 0x4D 0xE0) (lineList 1)) (3 ∷ 14 ∷ 0 ∷ 4 ∷ 0 ∷ 0 ∷ 0 ∷ [])
     -- science bit 2 alone; bits 2 and 4: 3
-    ∷ sample (checked (raster 0x22 (fields 0x00 0x64 3 1 2 0 0x20) 1 0xE0) (lineList 1)) (1 ∷ 0 ∷ 0 ∷ 0 ∷ 16 ∷ 6 ∷ 0 ∷ [])
-    ∷ sample (checked (raster 0x22 (fields 0x00 0x64 3 1 2 0 0x28) 1 0xE8) (lineList 1)) (3 ∷ 3 ∷ 0 ∷ 4 ∷ 0 ∷ 0 ∷ 0 ∷ [])
+    ∷ sample (checked (flagged 0x20 0xE0) (lineList 1)) (1 ∷ 0 ∷ 0 ∷ 0 ∷ 16 ∷ 6 ∷ 0 ∷ [])
+    ∷ sample (checked (flagged 0x28 0xE8) (lineList 1)) (3 ∷ 3 ∷ 0 ∷ 4 ∷ 0 ∷ 0 ∷ 0 ∷ [])
+    -- bit 3 with its mark, and with bit 2 too; without it, with that of bit 4, and with its own in a window past the count: 7, and the reason
+    ∷ sample (checked (flagged 0x10 0xD0) (markedList 0x13 0x7E)) (1 ∷ 0 ∷ 0 ∷ 0 ∷ 16 ∷ 6 ∷ 0 ∷ [])
+    ∷ sample (checked (flagged 0x30 0xF0) (markedList 0x13 0x7E)) (1 ∷ 0 ∷ 0 ∷ 0 ∷ 16 ∷ 6 ∷ 0 ∷ [])
+    ∷ sample (checkedWhy (flagged 0x10 0xD0) (lineList 1)) (4 ∷ 0 ∷ 3 ∷ 7 ∷ 0 ∷ 4 ∷ 0 ∷ 0 ∷ 0 ∷ [])
+    ∷ sample (checkedWhy (flagged 0x10 0xD0) (markedList 0x0B 0x66)) (4 ∷ 0 ∷ 3 ∷ 7 ∷ 0 ∷ 4 ∷ 0 ∷ 0 ∷ 0 ∷ [])
+    ∷ sample (checkedWhy (flagged 0x10 0xD0) (lineList 1 ++ (0x00 ∷ 0x10 ∷ []))) (4 ∷ 0 ∷ 3 ∷ 7 ∷ 0 ∷ 4 ∷ 0 ∷ 0 ∷ 0 ∷ [])
+    -- bits 4 and 5 without a mark: 3, as the flags are tested first
+    ∷ sample (checkedWhy (flagged 0x0C 0xCC) (lineList 1)) (0 ∷ 0 ∷ 3 ∷ 3 ∷ 0 ∷ 4 ∷ 0 ∷ 0 ∷ 0 ∷ [])
     -- a call of 128: 4
     ∷ sample (checked (calls 128 0x15) []) (3 ∷ 4 ∷ 0 ∷ 4 ∷ 0 ∷ 0 ∷ 0 ∷ [])
     -- 8 exposures; 9: 5
@@ -141,5 +156,5 @@ samples =
     ∷ []
 
 pub samples-right : allRight samples ≡ true
-unfolding xorOn tablesWrong rangeOf rangeAt limit lengthGood xorGood headerRows headerOf sizeOf decoded noneThere commandAt sizeAt starts startsOf among exposesBetween firstExposure targetGood rasterAt flagsGood somePast checksumOf listCard pathRows rasterRows runRows exposeRows loopRows closeRows judged judge aborted entered begun advances exposed looped delayed called ended act stepIn stepOf walked walk checkOne onward follow chainOf checkRows checkOf powerOn runsWrong rangeTests outOfRange telecommandOf ownRows lentWrong packetRows codeOf statusOf effect obeyedUnit reply refusedUnit unitAfter replyOf answerOf sightsOf
+unfolding xorOn tablesWrong rangeOf rangeAt limit lengthGood xorGood headerRows headerOf sizeOf decoded noneThere commandAt sizeAt starts startsOf among exposesBetween firstExposure targetGood rasterAt flagsGood markMissing somePast checksumOf marked marksOf listCard pathRows rasterRows runRows exposeRows loopRows closeRows judged judge aborted entered begun advances exposed looped delayed called ended act stepIn stepOf walked walk checkOne onward follow chainOf checkRows checkOf powerOn runsWrong rangeTests outOfRange telecommandOf ownRows lentWrong packetRows codeOf statusOf effect obeyedUnit reply refusedUnit unitAfter replyOf answerOf sightsOf
 samples-right = refl

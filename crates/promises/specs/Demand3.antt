@@ -1,6 +1,6 @@
 -- Demand 3: what the table check promises of the unit. Each definition says a part of it, in plain words and then in symbols.
 -- It is a statement of any library L: of its check, its step and what its packets leave (Library).
-use Prim.Native.Nat.{ℕ, zero, suc, _+_, _*_, _≤_, _<_}
+use Prim.Native.Nat.{ℕ, zero, suc, _+_, _*_, _≤_}
 use mathlib.Core.Path.{_≡_}
 use mathlib.Core.Bool.{true, false, cond, _||_}
 use mathlib.Core.List.{List, [], _∷_, _++_}
@@ -12,21 +12,23 @@ use Rattle.memory.specs.Memory.{entryOf, listOf}
 use Rattle.sequence.specs.declared.Command.{Command}
 use Rattle.sequence.specs.declared.Command.the-variants.{RunRaster, CallSequence, Terminate}
 use Rattle.sequence.specs.declared.Fault.{Fault}
+use Rattle.sequence.specs.declared.ListCard.{ListCard}
+use Rattle.sequence.specs.declared.ListCard.the-variants.{Good, Bad}
 use Rattle.sequence.specs.declared.RasterWords.{RasterWords}
 use Rattle.sequence.specs.Text.{commandAt}
 use Rattle.sequence.specs.Starts.{startsOf, rastersAmong, among}
-use Rattle.sequence.specs.Raster.{rasterAt, startOf}
+use Rattle.sequence.specs.Raster.{rasterAt, startOf, markMissing}
 use Rattle.sequence.specs.LineList.{listCard}
 use Rattle.runner.specs.declared.Event.{Event}
 use Rattle.runner.specs.declared.Event.the-variants.{Enter, Raster, Exp}
 use Rattle.survey.specs.declared.Ending.{Ending}
 use Rattle.survey.specs.declared.Ending.the-variants.{Finishes, Returns, Faults}
 use Rattle.survey.specs.declared.Reason.{Reason}
-use Rattle.survey.specs.declared.Reason.the-variants.{None, OfList}
+use Rattle.survey.specs.declared.Reason.the-variants.{None, OfList, Mark}
 use Rattle.survey.specs.Turns.{turns}
 use Rattle.survey.specs.Items.{positionAt}
 use Rattle.survey.specs.Chain.{Told}
-use Rattle.survey.specs.Report.{endingAs, endingShown, reasonShown}
+use Rattle.survey.specs.Report.{endingAs, endingShown}
 use Rattle.unit.specs.declared.Unit.{Unit as ControlUnit}
 use Rattle.unit.specs.declared.Outcome.{Outcome}
 use Rattle.unit.specs.declared.Outcome.the-variants.{Denied, Saw}
@@ -120,10 +122,17 @@ Calling F seqs n m = closingOf (entryOf F seqs n) ≡ CallSequence m
 abbrev pub Terminating : Format → List ℕ → ℕ → Type 0
 Terminating F seqs n = closingOf (entryOf F seqs n) ≡ Terminate
 
--- What the fault in a text tells besides its code and place. "The line list test is to say which": a fault with code 7 is at a run raster, and its
--- reason is what the test answers for the line list that this run raster names; its number is not 0, good. A fault with another code has none.
+-- The reason for which a run raster is refused with code 7, by what the test of its line list answers and by its science flags. "The line list
+-- test is to say which": it is what makes the list bad. Where the list is good it is a mark: one that a flag needs is missing.
+abbrev pub SevenFor : ListCard → ℕ → Reason → Type 0
+SevenFor (Bad bad) science reason = reason ≡ OfList bad
+SevenFor (Good marks) science reason = (reason ≡ Mark) × (markMissing marks science ≡ true)
+
+-- What the fault in a text tells besides its code and place. A fault with code 7 is at a run raster, and its reason is that of the line list
+-- which this run raster names. A fault with another code has none.
 pub record Reasoned (text lists : List ℕ) (fault : Fault) (reason : Reason) : Type 0 where
-  pub seven : fault .code ≡ 7 → (commandAt text (fault .place) ≡ RunRaster) × (reason ≡ OfList (listCard (listOf lists (rasterAt text (fault .place) .list)))) × (0 < reasonShown reason .number)
+  pub seven : fault .code ≡ 7
+      → let raster = rasterAt text (fault .place) in (commandAt text (fault .place) ≡ RunRaster) × SevenFor (listCard (listOf lists (raster .list))) (raster .science) reason
   pub other : (fault .code ≡ 7 → ⊥) → reason ≡ None
 
 -- "Follows the call, and ends at terminate or at a sequence already listed." The chain from sequence n has these names in order: the first is n,

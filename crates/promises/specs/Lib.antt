@@ -4,6 +4,7 @@ pub mod Positions
 pub mod Kept
 pub mod Library
 pub mod Demand3
+pub mod Flags
 pub mod EachCheck
 pub mod Sent
 pub mod Demand1

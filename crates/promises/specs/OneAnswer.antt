@@ -20,6 +20,7 @@ use Rattle.sequence.proofs as sequence
 use Rattle.sequence.specs.declared.Header.{Header}
 use Rattle.sequence.specs.declared.Command.{Command}
 use Rattle.sequence.specs.declared.RasterWords.{RasterWords}
+use Rattle.sequence.specs.declared.Marks.{Marks}
 use Rattle.sequence.specs.declared.ListCard.{ListCard}
 use Rattle.sequence.specs.declared.ReasonNumbers.{ReasonNumbers}
 use Rattle.runner.proofs as runner
@@ -181,8 +182,20 @@ OneSequenceFlagsGood = One Bool sequence.flags_good.Kinds.ps sequence.flags_good
 abbrev pub OneSequenceListCard : Type 0
 OneSequenceListCard = One ListCard sequence.list_card.Kinds.ps sequence.list_card.Kinds.r sequence.list_card.Reads.Learnt (λ κs r e. r)
 
+abbrev pub OneSequenceNeedsMark : Type 0
+OneSequenceNeedsMark = One Bool sequence.needs_mark.Kinds.ps sequence.needs_mark.Kinds.r sequence.needs_mark.Reads.Learnt (λ κs r e. r)
+
+abbrev pub OneSequenceMarksLack : Type 0
+OneSequenceMarksLack = One Bool sequence.Marks.lack.Kinds.ps sequence.Marks.lack.Kinds.r sequence.Marks.lack.Reads.Learnt (λ κs r e. r)
+
+abbrev pub OneSequenceBadListShown : Type 0
+OneSequenceBadListShown = One ReasonNumbers sequence.BadList.shown.Kinds.ps sequence.BadList.shown.Kinds.r sequence.BadList.shown.Reads.Learnt (λ κs r e. r)
+
 abbrev pub OneSequenceListCardShown : Type 0
 OneSequenceListCardShown = One ReasonNumbers sequence.ListCard.shown.Kinds.ps sequence.ListCard.shown.Kinds.r sequence.ListCard.shown.Reads.Learnt (λ κs r e. r)
+
+abbrev pub OneSequenceListCardMarks : Type 0
+OneSequenceListCardMarks = One Marks sequence.ListCard.marks.Kinds.ps sequence.ListCard.marks.Kinds.r sequence.ListCard.marks.Reads.Learnt (λ κs r e. r)
 
 abbrev pub OneSequencePast : Type 0
 OneSequencePast = One ℕ sequence.past.Kinds.ps sequence.past.Kinds.r sequence.past.Reads.Learnt (λ κs r e. r)

@@ -10,6 +10,7 @@ use Rattle.memory.specs.Memory.{flight, entryOf}
 use Rattle.sequence.specs.declared.ListCard.the-variants.{Good}
 use Rattle.sequence.specs.Text.{fault}
 use Rattle.sequence.specs.Raster.{rasterAt}
+use Rattle.sequence.specs.LineList.{noMarks}
 use Rattle.sequence.specs.Env.{Env}
 use Rattle.runner.specs.declared.Runner.{Runner}
 use Rattle.runner.specs.declared.Stepped.{Stepped}
@@ -213,9 +214,9 @@ repeatAtLast =
     let mirror = cond (eqb (u .runner .place) (u .runner .raster .place)) (u .runner .mirror) (r .unit .runner .mirror) in
     record { outcome = r .outcome; unit = withRunner (withMirror mirror (r .unit .runner)) (r .unit) })
 
--- A check that takes every line list for a good one; one that tells no fault's reason; a sequence table that is written while a sequence runs.
+-- A check that takes every line list for a good one without marks; one that tells no fault's reason; a sequence table that is written while a sequence runs.
 abbrev pub faultyRasterPassed : Library
-faultyRasterPassed = withCheck (λ F seqs lists n. chainOf F (findingOf (record { format = F; cards = λ k. Good }) seqs) n)
+faultyRasterPassed = withCheck (λ F seqs lists n. chainOf F (findingOf (record { format = F; cards = λ k. Good noMarks }) seqs) n)
 
 abbrev pub unreasoned : Ending → Ending
 unreasoned (Unlisted code) = Unlisted code

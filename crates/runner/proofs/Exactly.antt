@@ -1,22 +1,23 @@
 -- A command is refused exactly when a row of its table refuses it, with the code of the first row that holds: one law, and each
--- command's table under it; so code 7 tells of a run raster's line list. Assumes nothing.
+-- command's table under it; so code 7 tells of a run raster's line list, bad or without a mark. Assumes nothing.
 use Prim.Native.Nat.{ℕ, _≤_, _<_}
 use native.Mathlib.Omega.{arith}
 use mathlib.Core.Path.{_≡_, refl, sym, ap, _∙_}
-use mathlib.Core.Bool.{Bool, true, false, cond, not, _&&_}
+use mathlib.Core.Bool.{Bool, true, false, cond, not, _&&_, false≢true}
 use mathlib.Core.List.{List, [], _∷_, _++_}
-use mathlib.Core.Logic.{_↔_, inl, inr}
+use mathlib.Core.Logic.{_↔_, _⊎_, ⊎-elim, inl, inr}
 use lib.Dec.{T, ltb, eqb}
-use borrow.Author.Tests.{ltb-true, ltb-false, eqb-true, eq-eqb, ne-eqb}
+use borrow.Author.Tests.{ltb-false, eqb-true, eq-eqb, ne-eqb}
 use Rattle.octets.specs.Rows.{Row, row, firstCode, NoneHolds, FirstBears, coded}
 use Rattle.octets.proofs.Bools.{and-T}
 use Rattle.octets.proofs.Laws.{none-holds, no-code, first-bears, bears-first}
 use Rattle.sequence.specs.declared.Command.{Command}
 use Rattle.sequence.specs.declared.Command.the-variants.{RunRaster, Expose, LoopBack, CallSequence, Terminate, Delay, Nothing, Unknown, Unfit}
 use Rattle.sequence.specs.declared.ListCard.{ListCard}
+use Rattle.sequence.specs.declared.ListCard.the-variants.{Good, Bad}
 use Rattle.sequence.specs.Text.{commandAt}
-use Rattle.sequence.specs.Raster.{rasterAt}
-use Rattle.sequence.specs.LineList.{cardShown}
+use Rattle.sequence.specs.Raster.{rasterAt, flagsGood, markMissing}
+use Rattle.sequence.specs.LineList.{cardShown, marksIn}
 use Rattle.runner.specs.declared.Opened.{Opened}
 use Rattle.runner.specs.declared.Opened.the-variants.{Shut, Open}
 use Rattle.runner.specs.declared.Act.{Act}
@@ -103,28 +104,42 @@ nowhere c [] w f = f
 nowhere c (r ∷ rs) w (inl (h, e)) = rw (eq-eqb (r .code) c e) at w
 nowhere c (r ∷ rs) w (inr (h, f)) = nowhere c rs (and-T (not (eqb (r .code) c)) (without c rs) w .1) f
 
--- one row bears it: if it is that of the first row that holds, this row holds and none before it does
-only : (c : ℕ) (xs ys : List Row) (t : Bool) → T (without c (xs ++ ys)) → FirstBears c (xs ++ (row c t ∷ ys)) → NoneHolds xs × (t ≡ true)
-only c [] ys t w (inl (h, e)) = (tt, h)
-only c [] ys t w (inr (h, f)) = absurd (nowhere c ys w f)
-only c (r ∷ rs) ys t w (inl (h, e)) = absurd (rw (eq-eqb (r .code) c e) at w)
-only c (r ∷ rs) ys t w (inr (h, f)) = let (n, g) = only c rs ys t (and-T (not (eqb (r .code) c)) (without c (rs ++ ys)) w .1) f in ((h, n), g)
+-- where none of the rows above a row bears its code, and it is that of the first row that holds, this row holds, or the first is below it
+bearer : (c : ℕ) (xs ys : List Row) (t : Bool) → T (without c xs) → FirstBears c (xs ++ (row c t ∷ ys)) → NoneHolds xs × ((t ≡ true) ⊎ FirstBears c ys)
+bearer c [] ys t w (inl (h, e)) = (tt, inl h)
+bearer c [] ys t w (inr (h, f)) = (tt, inr f)
+bearer c (r ∷ rs) ys t w (inl (h, e)) = absurd (rw (eq-eqb (r .code) c e) at w)
+bearer c (r ∷ rs) ys t w (inr (h, f)) = let (n, g) = bearer c rs ys t (and-T (not (eqb (r .code) c)) (without c rs) w .1) f in ((h, n), g)
+
+-- a line list is bad, or it is good and a mark that these flags need is missing
+abbrev pub ListRefused : ListCard → ℕ → Type 0
+ListRefused (Good marks) science = markMissing marks science ≡ true
+ListRefused (Bad bad) science = Unit {0}
+
+list-refused : (card : ListCard) (science : ℕ) → (ltb 0 (cardShown card .number) ≡ true) ⊎ (markMissing (marksIn card) science ≡ true) → ListRefused card science
+list-refused (Good marks) science (inl e) = absurd (false≢true e)
+list-refused (Good marks) science (inr m) = m
+list-refused (Bad bad) science h = tt
 
 module _ (cards : ℕ → ListCard) (text : List ℕ) (p : ℕ) where
-  -- a run raster, and the test of its line list does not answer 0, good
-  abbrev pub ListBad : Command → Type 0
-  ListBad k = (k ≡ RunRaster) × (0 < cardShown (cards (rasterAt text p .list)) .number) × (rasterAt text p .list ≤ 47)
+  -- a run raster whose line list is refused
+  abbrev pub RefusedFor : Command → Type 0
+  RefusedFor k = let raster = rasterAt text p in (k ≡ RunRaster) × (raster .list ≤ 47) × ListRefused (cards (raster .list)) (raster .science)
 
-  not-seven : {rs : List Row} {judgement act : Act} → Exactly rs judgement act → T (without 7 rs) → judgement ≡ Refused 7 → {k : Command} → ListBad k
+  not-seven : {rs : List Row} {judgement act : Act} → Exactly rs judgement act → T (without 7 rs) → judgement ≡ Refused 7 → {k : Command} → RefusedFor k
   not-seven {rs} x w e = absurd (nowhere 7 rs w (x .refused 7 (omega arith) .0 e))
 
-  seven-judged : (o : Opened) (k : Command) → judged cards text p o k ≡ Refused 7 → ListBad k
+  seven-judged : (o : Opened) (k : Command) → judged cards text p o k ≡ Refused 7 → RefusedFor k
   unfolding judged runRows rasterRows pathRows exposeRows loopRows closeRows
   seven-judged o RunRaster e =
       let raster = rasterAt text p in
+      let card = cards (raster .list) in
+      let path = pathRows raster (repeatBegun raster o) in
+      let flags = row 3 (not (eqb (raster .asrc) 0)) ∷ row 3 (not (flagsGood (raster .science))) ∷ [] in
       let before = row 3 (openElsewhere p o) ∷ (countRows raster ++ (row 6 (ltb 47 (raster .list)) ∷ [])) in
-      let (none, bad) = only 7 before (pathRows raster (repeatBegun raster o) ++ flagRows raster) (ltb 0 (cardShown (cards (raster .list)) .number)) tt (run-raster-exactly cards text p o .refused 7 (omega arith) .0 e) in
-      (refl, ltb-true 0 _ bad, ltb-false 47 _ (none .1 .1 .1 .1 .1 .0))
+      let (none, why) = bearer 7 before (path ++ flagRows cards raster) (ltb 0 (cardShown card .number)) tt (run-raster-exactly cards text p o .refused 7 (omega arith) .0 e) in
+      let why′ = ⊎-elim inl (λ f. inr (⊎-elim (λ m. m) absurd (bearer 7 (path ++ flags) [] (markMissing (marksIn card) (raster .science)) tt f .1))) why in
+      (refl, ltb-false 47 _ (none .1 .1 .1 .1 .1 .0), list-refused card (raster .science) why′)
   seven-judged Shut (Expose t) e = absurd (clash (cc))
   seven-judged (Open r c n) (Expose t) e = not-seven (expose-exactly cards text p t r c n) tt e
   seven-judged Shut (LoopBack t) e = absurd (clash (cc))
@@ -137,6 +152,6 @@ module _ (cards : ℕ → ListCard) (text : List ℕ) (p : ℕ) where
   seven-judged o Unfit e = absurd (clash (cc))
 
   -- only such a command is refused with 7
-  pub seven : (o : Opened) → judge cards text p o ≡ Refused 7 → ListBad (commandAt text p)
+  pub seven : (o : Opened) → judge cards text p o ≡ Refused 7 → RefusedFor (commandAt text p)
   unfolding judge
   seven o e = seven-judged o (commandAt text p) e

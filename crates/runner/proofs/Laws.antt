@@ -25,7 +25,8 @@ use Rattle.sequence.proofs.Command.{the-type}
 use Rattle.sequence.specs.declared.RasterWords.{RasterWords}
 use Rattle.sequence.specs.declared.ListCard.{ListCard}
 use Rattle.sequence.specs.Text.{rowOf, fault, numberOf, sizeOf, sizeAt, commandAt}
-use Rattle.sequence.specs.Raster.{rasterAt}
+use Rattle.sequence.specs.Raster.{rasterAt, needsMark}
+use Rattle.sequence.specs.LineList.{cardWith}
 use Rattle.sequence.specs.Env.{Env, textOf}
 use Rattle.runner.specs.declared.OpenRaster.{OpenRaster}
 use Rattle.runner.specs.declared.Runner.{Runner}
@@ -34,10 +35,11 @@ use Rattle.runner.specs.declared.Event.the-variants.{Idle, Raster, Wait}
 use Rattle.runner.specs.declared.Opened.{Opened}
 use Rattle.runner.specs.declared.Opened.the-variants.{Shut, Open}
 use Rattle.runner.specs.declared.Act.the-variants.{Refused}
-use Rattle.runner.specs.Judge.{isOpen, setOf, exposeRows, loopRows, closeRows, judged, judge}
+use Rattle.runner.specs.Judge.{isOpen, setOf, listRows, flagRows, exposeRows, loopRows, closeRows, judged, judge}
 use Rattle.runner.specs.Step.{to, openBy, openOf, past, aborted, entered, begun, delayed, act, stepIn, stepOf, Stands}
 use Rattle.runner.specs.With.{withPlace, withRaster, withMirror}
 use Rattle.sequence.proofs.Laws.{Bytes, command-bytes, none-past}
+use Rattle.sequence.proofs.Flags.{with-shown, with-missing}
 
 -- a raster's reach is a double word's number
 pub reach-fits : (l s : ℕ) → l < 65536 → s < 65536 → (l - 1) * s ≤ 65535 * 65535
@@ -48,6 +50,14 @@ reach-fits l s h k =
 
 pub reach-none : (i l s : ℕ) → l ≡ 0 → i ≡ i + (l - 1) * s
 reach-none i l s e = let z : l - 1 ≡ 0 = omega arith in rw z (omega arith)
+
+-- ── the rows of a line list and of the flags, from its card without the marks that no flag needs
+module _ (cards : ℕ → ListCard) (raster : RasterWords) (card : ListCard) (is : card ≡ cardWith (needsMark (raster .science)) (cards (raster .list))) where
+  pub list-rows : firstCode (listRows (λ n. card) raster) ≡ firstCode (listRows cards raster)
+  list-rows = rw (is, with-shown (needsMark (raster .science)) (cards (raster .list)))
+
+  pub flag-rows : firstCode (flagRows (λ n. card) raster) ≡ firstCode (flagRows cards raster)
+  flag-rows = rw (is, with-missing (raster .science) (cards (raster .list)))
 
 -- ── rows that all bear 3
 abbrev threes : List Row → Bool

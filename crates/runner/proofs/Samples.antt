@@ -8,8 +8,8 @@ use Rattle.octets.specs.Bytes.{xorOn}
 use Rattle.memory.specs.Memory.{flight}
 use Rattle.sequence.specs.Text.{lengthGood, limit, xorGood, headerRows, headerOf, sizeOf, decoded, noneThere, commandAt, sizeAt}
 use Rattle.sequence.specs.Starts.{starts, startsOf, among, exposesBetween, firstExposure, targetGood}
-use Rattle.sequence.specs.Raster.{rasterAt, flagsGood, somePast}
-use Rattle.sequence.specs.LineList.{checksumOf, listCard}
+use Rattle.sequence.specs.Raster.{rasterAt, flagsGood, markMissing, somePast}
+use Rattle.sequence.specs.LineList.{checksumOf, marked, marksOf, listCard}
 use Rattle.sequence.specs.Env.{Env, envOf}
 use Rattle.sequence.proofs.SampleTables.{seqs, lists, lineList, theRaster}
 use Rattle.runner.specs.declared.Runner.{Runner}
@@ -35,5 +35,5 @@ raster-sample : shown (envOf flight (lists (lineList 1))) 17 started
     ∷ End
     ∷ Idle
     ∷ []
-unfolding started shown xorOn lengthGood limit xorGood headerRows headerOf sizeOf decoded noneThere commandAt sizeAt starts startsOf among exposesBetween firstExposure targetGood rasterAt flagsGood somePast checksumOf listCard pathRows rasterRows runRows exposeRows loopRows closeRows judged judge aborted entered begun advances exposed looped delayed called ended act stepIn stepOf
+unfolding started shown xorOn lengthGood limit xorGood headerRows headerOf sizeOf decoded noneThere commandAt sizeAt starts startsOf among exposesBetween firstExposure targetGood rasterAt flagsGood markMissing somePast checksumOf marked marksOf listCard pathRows rasterRows runRows exposeRows loopRows closeRows judged judge aborted entered begun advances exposed looped delayed called ended act stepIn stepOf
 raster-sample = refl

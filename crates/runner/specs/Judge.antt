@@ -12,8 +12,8 @@ use Rattle.sequence.specs.declared.RasterWords.{RasterWords}
 use Rattle.sequence.specs.Text.{limit, sizeAt, commandAt, isRunRaster}
 use Rattle.sequence.specs.Starts.{targetGood}
 use Rattle.sequence.specs.declared.ListCard.{ListCard}
-use Rattle.sequence.specs.Raster.{rasterAt, flagsGood, leaves}
-use Rattle.sequence.specs.LineList.{cardShown}
+use Rattle.sequence.specs.Raster.{rasterAt, flagsGood, markMissing, leaves}
+use Rattle.sequence.specs.LineList.{cardShown, marksIn}
 use Rattle.runner.specs.declared.Opened.{Opened}
 use Rattle.runner.specs.declared.Opened.the-variants.{Shut, Open}
 use Rattle.runner.specs.declared.Act.{Act}
@@ -69,12 +69,16 @@ pathRows raster k =
     ∷ row 14 (leaves raster k)
     ∷ []
 
--- "ASRC not 0, or more than one of science bits 2-5 set, 3"
-abbrev pub flagRows : RasterWords → List Row
-flagRows raster = row 3 (not (eqb (raster .asrc) 0)) ∷ row 3 (not (flagsGood (raster .science))) ∷ []
+-- "ASRC not 0 .. 3"; "two forbidden flags stay 3; a missing mark is 7, checked after the flags"
+abbrev pub flagRows : (ℕ → ListCard) → RasterWords → List Row
+flagRows cards raster =
+    row 3 (not (eqb (raster .asrc) 0))
+    ∷ row 3 (not (flagsGood (raster .science)))
+    ∷ row 7 (markMissing (marksIn (cards (raster .list))) (raster .science))
+    ∷ []
 
 unfoldable pub rasterRows : (ℕ → ListCard) → RasterWords → ℕ → List Row
-rasterRows cards raster k = countRows raster ++ (listRows cards raster ++ (pathRows raster k ++ flagRows raster))
+rasterRows cards raster k = countRows raster ++ (listRows cards raster ++ (pathRows raster k ++ flagRows cards raster))
 
 -- "Run raster: raster already open 3 (a repeat's jump back isn't that ..)"
 unfoldable pub runRows : (ℕ → ListCard) → List ℕ → ℕ → Opened → List Row

@@ -17,6 +17,7 @@ use memory::Placed;
 use sequence::Command;
 use sequence::Fault;
 use sequence::Header;
+use sequence::ListCard;
 use sequence::RasterWords;
 
 // The open raster: its place, 255 for none; the exposures made in the present set; the passes and the repeats left.
@@ -224,10 +225,9 @@ fn count_fault(raster: RasterWords) -> u8
 }
 
 // The code with which a raster's line list is refused, or 0: which of its tests fails is dropped.
-fn list_fault(raster: RasterWords, lists: &[u8]) -> u8
-    ensures { λ r. ⌜ r ≡ firstCode (listRows (cardsOf (now (lists .entry))) raster) ⌝ }
+fn list_fault(raster: RasterWords, card: ListCard) -> u8
+    ensures { λ r. ⌜ r ≡ firstCode (listRows (λ n. card) raster) ⌝ }
 {
-    let card = sequence::list_card(memory::list(lists, raster.list));
     octets::refuse(
         memory::LAST_LINE_LIST < raster.list,
         6,
@@ -250,23 +250,30 @@ fn path_fault(raster: RasterWords, k: u16) -> u8
     )
 }
 
-// The code with which a raster's flags are refused, or 0.
-fn flag_fault(raster: RasterWords) -> u8
-    ensures { λ r. ⌜ r ≡ firstCode (flagRows raster) ⌝ }
+// The code with which a raster's flags are refused, or 0; a mark that is missing comes last.
+fn flag_fault(raster: RasterWords, card: ListCard) -> u8
+    ensures { λ r. ⌜ r ≡ firstCode (flagRows (λ n. card) raster) ⌝ }
 {
+    let forbidden = !sequence::flags_good(raster.science);
+    let missing = card.marks().lack(raster.science);
     octets::refuse(
         raster.asrc != 0,
         3,
-        octets::refuse(!sequence::flags_good(raster.science), 3, 0),
+        octets::refuse(forbidden, 3, octets::refuse(missing, 7, 0)),
     )
 }
 
-// The code with which a raster's words are refused, or 0: counts, line list, path, flags.
+// The code with which a raster's words are refused, or 0: counts, line list, path, flags. The marks of the line list are looked for only
+// where a flag needs one.
 fn raster_fault(raster: RasterWords, lists: &[u8], k: u16) -> u8
     ensures { λ r. ⌜ r ≡ firstCode (rasterRows (cardsOf (now (lists .entry))) raster k) ⌝ }
 {
     let counts = count_fault(raster);
-    let list = list_fault(raster, lists);
+    let card = sequence::list_card(
+        memory::list(lists, raster.list),
+        sequence::needs_mark(raster.science),
+    );
+    let list = list_fault(raster, card);
     let path = path_fault(raster, k);
     octets::refuse(
         counts != 0,
@@ -274,7 +281,7 @@ fn raster_fault(raster: RasterWords, lists: &[u8], k: u16) -> u8
         octets::refuse(
             list != 0,
             list,
-            octets::refuse(path != 0, path, flag_fault(raster)),
+            octets::refuse(path != 0, path, flag_fault(raster, card)),
         ),
     )
 }

@@ -9,7 +9,7 @@ use mathlib.Core.List.{List, [], _∷_, _++_, append-nil}
 use lib.Arith.{bin-ind}
 use lib.Bits.{bitXor, differ, xor-step, xor-comm, xor-self, xor-zero-r, xor-shr, xor-mod}
 use lib.Dec.{eqb}
-use lib.ListN.{length, take, drop, length-take, drop-of-length-le}
+use lib.ListN.{take, drop, length-take, drop-of-length-le}
 use lib.Seq.{getD-take, take-take}
 use borrow.Author.Tests.{eqb-true, eqb-false, ne-eqb}
 use Rattle.octets.specs.Bytes.{byteAt, xorOn, xorOf}
@@ -18,7 +18,7 @@ use Rattle.sequence.specs.Text.{limit, xorGood}
 use Rattle.sequence.specs.LineList.{checksumOf}
 
 -- ── XOR in another order
-digit : (P : ℕ → Type 0) → P 0 → P 1 → (n : ℕ) → P (n % 2)
+pub digit : (P : ℕ → Type 0) → P 0 → P 1 → (n : ℕ) → P (n % 2)
 digit P a b n = of (n % 2) (mod-lt n (omega arith))
   where
     of : (d : ℕ) → d < 2 → P d

@@ -1,10 +1,11 @@
--- A raster's fields from its eleven words, and the test of its science flags.
+-- A raster's fields from its eleven words, and the tests of its science flags.
 use Prim.Native.Nat.{ℕ, zero, suc, _+_, _*_, _-_, _/_, _%_}
-use mathlib.Core.Bool.{Bool, false, _||_}
+use mathlib.Core.Bool.{Bool, false, not, _&&_, _||_}
 use mathlib.Core.List.{List}
-use lib.Dec.{ltb, leb}
-use Rattle.octets.specs.Bytes.{byteAt, wordAt}
+use lib.Dec.{ltb}
+use Rattle.octets.specs.Bytes.{byteAt, wordAt, byteBit}
 use Rattle.sequence.specs.declared.RasterWords.{RasterWords}
+use Rattle.sequence.specs.declared.Marks.{Marks}
 
 -- "ID; initial position; loops; compression; OCB-X, OCB-Y; flush ID, flushes; 4 spare bits, exposures (4 bits), ASRC (8);
 -- nodes (4), repeats (12); ASRC skip, read-out ID; step; line list, science control"
@@ -31,13 +32,21 @@ rasterAt text p =
       science = byteAt text (p + 22);
     }
 
--- how many of science bits 2 to 5 are set; bit 0 is the most significant
-abbrev pub flagsSet : ℕ → ℕ
-flagsSet science = science / 32 % 2 + science / 16 % 2 + science / 8 % 2 + science / 4 % 2
+-- "bits 2 and 3 may be set together, any other pair not": of science bits 2 to 5
+abbrev pub bothSet : ℕ → ℕ → ℕ → Bool
+bothSet a b science = byteBit a science && byteBit b science
 
--- "more than one of science bits 2-5 set"
 unfoldable pub flagsGood : ℕ → Bool
-flagsGood science = leb (flagsSet science) 1
+flagsGood science = not (bothSet 2 4 science || (bothSet 2 5 science || (bothSet 3 4 science || (bothSet 3 5 science || bothSet 4 5 science))))
+
+-- "each of bits 3, 4 and 5 needs a window of that line list with its own mark": one that is set has none
+unfoldable pub markMissing : Marks → ℕ → Bool
+markMissing marks science =
+    (byteBit 3 science && not (marks .aec)) || ((byteBit 4 science && not (marks .event)) || (byteBit 5 science && not (marks .flare)))
+
+-- for the code: one of them is set
+unfoldable pub needsMark : ℕ → Bool
+needsMark science = byteBit 3 science || (byteBit 4 science || byteBit 5 science)
 
 -- where repeat k of a raster begins
 abbrev pub startOf : RasterWords → ℕ → ℕ

@@ -1,15 +1,15 @@
 // Sequences and line lists as bytes: the commands of a text, a raster's words, and the tests of an entry, of a line list and
 // of the science flags. A text is one sequence's own bytes; every reader answers for every text.
 ghost use mathlib.Core.Path.{_≡_};
-ghost use Prim.Native.Nat.{ℕ, _+_, _≤_, _<_};
+ghost use Prim.Native.Nat.{ℕ, _+_, _-_, _/_, _≤_, _<_};
 ghost use mathlib.Core.Bool.{_&&_};
 ghost use lib.Dec.{leb};
 ghost use lib.ListN.{length};
-ghost use Rattle.octets.specs.Bytes.{byteAt, wordAt};
+ghost use Rattle.octets.specs.Bytes.{byteAt, wordAt, byteBit, xorOn};
 ghost use Rattle.sequence.specs.Text.{limit, lengthGood, xorGood, headerOf, numberOf, sizeOf, sizeAt, noneThere, decoded, commandAt, isRunRaster};
 ghost use Rattle.sequence.specs.Starts.{among, starts, firstExposure, targetGood};
-ghost use Rattle.sequence.specs.Raster.{rasterAt, flagsGood};
-ghost use Rattle.sequence.specs.LineList.{listCard, reasonAs, cardShown};
+ghost use Rattle.sequence.specs.Raster.{rasterAt, flagsGood, needsMark, markMissing};
+ghost use Rattle.sequence.specs.LineList.{marked, listCard, reasonAs, badShown, cardShown, marksIn, cardWith};
 use memory::Place;
 
 // What stands at a place of a text: a command with its operand, or none there, one of an unknown number, or one that does not fit.
@@ -87,12 +87,30 @@ pub enum Header {
     Bad(Fault),
 }
 
-// What is known of a line list: it is good, or the first of its tests that fails, with the checksum expected.
-pub enum ListCard {
-    Good,
+// Which marks the windows of a line list have among them: header bits 11, 12 and 13, for the AEC, event and flare flags.
+pub struct Marks {
+    pub aec: bool,
+    pub event: bool,
+    pub flare: bool,
+}
+
+// What makes a line list bad: the first of its tests that fails, with the checksum expected.
+pub enum BadList {
     WindowCount,
     Length,
     Checksum(u8),
+}
+
+// What is known of a line list: it is good, with its marks, or bad.
+pub enum ListCard {
+    Good(Marks),
+    Bad(BadList),
+}
+
+// What a walk over a line list gives: its XOR on the number that it began with, and the low bytes of its windows' headers, by OR.
+struct ListWalk {
+    sum: u8,
+    seen: u8,
 }
 
 // What is wrong with a line list, as numbers: which test, 0 for none, and the checksum expected.
@@ -335,35 +353,105 @@ pub fn list_at(text: &[u8], at: Place) -> u8
     byte_after(text, at, 21)
 }
 
-// Whether at most one of the science flags, bits 2 to 5, is set.
+// Whether the science flags, bits 2 to 5, go together: none or one of them, or the first two.
 pub fn flags_good(science: u8) -> bool
     ensures { λ r. ⌜ r ≡ flagsGood science ⌝ }
 {
-    science / 32 % 2 + science / 16 % 2 + science / 8 % 2 + science / 4 % 2 <= 1
+    let flags = science / 4 % 16;
+    match flags {
+        0b0000 | 0b1000 | 0b0100 | 0b0010 | 0b0001 | 0b1100 => true,
+        _ => false,
+    }
 }
 
-// A line list's card: window count, length, checksum, in that order; the sum is taken as that of an entry is.
-pub fn list_card(list: &[u8]) -> ListCard
-    ensures { λ r. ⌜ r ≡ listCard (now (list .entry)) ⌝ }
+// Whether a science flag that needs a mark is set: bit 3, 4 or 5.
+pub fn needs_mark(science: u8) -> bool
+    ensures { λ r. ⌜ r ≡ needsMark science ⌝ }
+{
+    science / 4 % 8 != 0
+}
+
+impl Marks {
+    // Whether a science flag is set that needs a mark which is not among these.
+    pub fn lack(self, science: u8) -> bool
+        ensures { λ r. ⌜ r ≡ markMissing self science ⌝ }
+    {
+        if !needs_mark(science) {
+            return false;
+        }
+        octets::either(
+            octets::both(science / 16 % 2 == 1, !self.aec),
+            octets::either(
+                octets::both(science / 8 % 2 == 1, !self.event),
+                octets::both(science / 4 % 2 == 1, !self.flare),
+            ),
+        )
+    }
+}
+
+// The marks in the low bytes of headers.
+fn marks_from(seen: u8) -> Marks
+    ensures { λ r. ⌜ (r .aec ≡ byteBit 3 seen) × (r .event ≡ byteBit 4 seen) × (r .flare ≡ byteBit 5 seen) ⌝ }
+{
+    Marks {
+        aec: seen / 16 % 2 == 1,
+        event: seen / 8 % 2 == 1,
+        flare: seen / 4 % 2 == 1,
+    }
+}
+
+// One walk over a line list, for its XOR and, where they are wanted, its marks. The low byte of window w's header is byte 15 + 6 x w. A
+// count that grows by 171 with each byte, modulo 256, grows by 2 with each window; begun to be 0 at byte 15, it is there 2 x w, and at
+// every other byte odd or above 48: so the compiler tests many bytes at once.
+fn walk_list(start: u8, list: &[u8], wanted: bool) -> ListWalk
+    requires { ⌜ length (now list) ≤ 164 ⌝ }
+    ensures { λ r. ⌜ r .sum ≡ xorOn start (now (list .entry)) ⌝ }
+    ensures { λ r. ⌜ ((b : ℕ) → b < 8 → byteBit b (r .seen) ≡ (wanted && marked (now (list .entry)) (8 + b) ((length (now (list .entry)) - 10) / 6))) ⌝ }
+{
+    if !wanted {
+        return ListWalk {
+            sum: octets::xor_on(start, list),
+            seen: 0,
+        };
+    }
+    let mut sum = start;
+    let mut seen: u8 = 0;
+    let mut count: u8 = 251;
+    let mut k = 0;
+    while k < list.len() {
+        sum = sum ^ list[k];
+        if octets::both(count % 2 == 0, count <= 48) {
+            seen = seen | list[k];
+        }
+        count = std::num::wrapping_add_u8(count, 171);
+        k += 1;
+    }
+    ListWalk { sum, seen }
+}
+
+// A line list's card: window count, length, checksum, in that order; the sum is taken as that of an entry is. Marks that are not wanted are
+// not looked for.
+pub fn list_card(list: &[u8], wanted: bool) -> ListCard
+    ensures { λ r. ⌜ r ≡ cardWith wanted (listCard (now (list .entry))) ⌝ }
 {
     let len = octets::byte(list, 0);
     let windows = octets::byte(list, 2);
     if windows < 1 {
-        return ListCard::WindowCount;
+        return ListCard::Bad(BadList::WindowCount);
     }
     if 25 < windows {
-        return ListCard::WindowCount;
+        return ListCard::Bad(BadList::WindowCount);
     }
     if len != 14 + 6 * windows {
-        return ListCard::Length;
+        return ListCard::Bad(BadList::Length);
     }
     let whole = octets::part(list, 0, len as usize);
     let found = octets::byte(whole, 3);
-    let expected = octets::xor_on(found, whole);
-    if found != expected {
-        return ListCard::Checksum(expected);
+    let walk = walk_list(found, whole, wanted);
+    if found != walk.sum {
+        return ListCard::Bad(BadList::Checksum(walk.sum));
     }
-    ListCard::Good
+    ListCard::Good(marks_from(walk.seen))
 }
 
 // A number and a value, put together.
@@ -373,16 +461,41 @@ fn reason_as(number: u8, value: u8) -> ReasonNumbers
     ReasonNumbers { number, value }
 }
 
+impl BadList {
+    // What is wrong, by number and value.
+    pub fn shown(self) -> ReasonNumbers
+        ensures { λ r. ⌜ r ≡ badShown self ⌝ }
+    {
+        match self {
+            BadList::WindowCount => reason_as(1, 0),
+            BadList::Length => reason_as(2, 0),
+            BadList::Checksum(expected) => reason_as(3, expected),
+        }
+    }
+}
+
 impl ListCard {
-    // The card by number and value.
+    // The test's answer by number and value.
     pub fn shown(self) -> ReasonNumbers
         ensures { λ r. ⌜ r ≡ cardShown self ⌝ }
     {
         match self {
-            ListCard::Good => reason_as(0, 0),
-            ListCard::WindowCount => reason_as(1, 0),
-            ListCard::Length => reason_as(2, 0),
-            ListCard::Checksum(expected) => reason_as(3, expected),
+            ListCard::Good(_) => reason_as(0, 0),
+            ListCard::Bad(bad) => bad.shown(),
+        }
+    }
+
+    // The marks; a bad list has none.
+    pub fn marks(self) -> Marks
+        ensures { λ r. ⌜ r ≡ marksIn self ⌝ }
+    {
+        match self {
+            ListCard::Good(marks) => marks,
+            ListCard::Bad(_) => Marks {
+                aec: false,
+                event: false,
+                flare: false,
+            },
         }
     }
 }

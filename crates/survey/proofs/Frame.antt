@@ -50,8 +50,8 @@ module _ (cards cards′ : ℕ → ListCard) where
       rest k = cond (eqb (raster .loops) 0) 11 (cond (eqb (raster .repeats) 0) 11 (cond (eqb (raster .exposures) 0) 5 (cond (ltb 8 (raster .exposures)) 5 k)))
 
       named : (b : Bool) → ltb 47 (raster .list) ≡ b
-          → cond b 6 (cond (ltb 0 (cardShown (cards′ (raster .list)) .number)) 7 (firstCode (pathRows raster begun ++ flagRows raster)))
-          ≡ cond b 6 (cond (ltb 0 (cardShown (cards (raster .list)) .number)) 7 (firstCode (pathRows raster begun ++ flagRows raster)))
+          → cond b 6 (cond (ltb 0 (cardShown (cards′ (raster .list)) .number)) 7 (firstCode (pathRows raster begun ++ flagRows cards′ raster)))
+          ≡ cond b 6 (cond (ltb 0 (cardShown (cards (raster .list)) .number)) 7 (firstCode (pathRows raster begun ++ flagRows cards raster)))
       named true e = refl
       named false e = rw (h (ltb-false 47 (raster .list) e))
 
@@ -123,7 +123,7 @@ module _ (cards cards′ : ℕ → ListCard) (text : List ℕ) where
       let here = h p (start-here f p e) in
       rw (same-judge cards cards′ text p here o)
       (walked-same _ _ p (walk-same f (p + sizeAt text p) (λ q s. h q (start-later f p q e s))) o (judge cards text p o)
-      (λ s. let (run, bad, low) = seven cards text p o s in here run low)))
+      (λ s. let (run, low, why) = seven cards text p o s in here run low)))
 
   -- a run raster among some places names one of their line lists
   names : (p : ℕ) (ps : List ℕ) → among p ps ≡ true → commandAt text p ≡ RunRaster → among (rasterAt text p .list) (listsNamed text (rastersAmong text ps)) ≡ true

@@ -1,5 +1,5 @@
--- A fault's reason is right: that of a 7 is what the line list test answers for the list of the run raster at its place, and that is not
--- good; any other has none. Assumes nothing.
+-- A fault's reason is right: that of a 7 is what the line list test answers for the list of the run raster at its place, or a missing mark
+-- where that is good; any other has none. Assumes nothing.
 use Prim.Native.Nat.{ℕ, zero, suc, _+_}
 use native.Mathlib.Omega.{arith}
 use mathlib.Core.Path.{_≡_, refl, subst}
@@ -20,7 +20,7 @@ use Rattle.runner.specs.declared.Opened.the-variants.{Shut, Open}
 use Rattle.runner.specs.declared.Act.{Act}
 use Rattle.runner.specs.declared.Act.the-variants.{Refused, Opens, Exposes, Loops, Waits, Calls, Ends}
 use Rattle.runner.specs.Judge.{judge}
-use Rattle.runner.proofs.Exactly.{ListBad, seven}
+use Rattle.runner.proofs.Exactly.{RefusedFor, seven}
 use Rattle.survey.specs.declared.Item.{Item}
 use Rattle.survey.specs.declared.Closing.the-variants.{Terminates, CallsOn}
 use Rattle.survey.specs.declared.Reason.{Reason}
@@ -28,14 +28,14 @@ use Rattle.survey.specs.declared.Reason.the-variants.{None}
 use Rattle.survey.specs.Walk.{Finding, passes, faults, inFront, paused, closed, reasonFor, walked, walk, rounds, checkedBy, checkOne}
 
 module _ (cards : ℕ → ListCard) (text : List ℕ) where
-  -- the reason of a fault is the one defined for it, and a 7 is at a run raster with a bad line list
+  -- the reason of a fault is the one defined for it, and a 7 is at a run raster whose line list is bad or misses a mark
   pub record RightReason (f : Fault) (reason : Reason) : Type 0 where
     pub told : reason ≡ reasonFor cards text f
-    pub bad : f .code ≡ 7 → ListBad cards text (f .place) (commandAt text (f .place))
+    pub refused : f .code ≡ 7 → RefusedFor cards text (f .place) (commandAt text (f .place))
 
   -- a fault with another code has none
   none : (code p : ℕ) → (code ≡ 7 → ⊥) → RightReason (fault code p) None
-  none code p n = record { told = rw (ne-eqb code 7 n); bad = λ s. absurd (n s) }
+  none code p n = record { told = rw (ne-eqb code 7 n); refused = λ s. absurd (n s) }
 
   -- so of what the check finds, kept by each of its parts
   abbrev pub Right : Finding → Type 0
@@ -57,7 +57,7 @@ module _ (cards : ℕ → ListCard) (text : List ℕ) where
   right-walked : (go : ℕ → Opened → Finding) → ((p : ℕ) (o : Opened) → Right (go p o)) → (p : ℕ) (o : Opened) (a : Act) → judge cards text p o ≡ a
       → Right (walked cards text go p o a)
   unfolding walked
-  right-walked go ih p o (Refused code) e = record { told = refl; bad = λ s. seven cards text p o (cc) }
+  right-walked go ih p o (Refused code) e = record { told = refl; refused = λ s. seven cards text p o (cc) }
   right-walked go ih p o Opens e = ih (p + sizeAt text p) _
   right-walked go ih p o (Exposes r) e = ih (p + sizeAt text p) _
   right-walked go ih p o (Loops t) e = right-closed p t o (go (p + sizeAt text p) Shut) (ih _ Shut)

@@ -3,11 +3,11 @@ use Prim.Native.Nat.{ℕ, _-_}
 use mathlib.Core.List.{List, _++_}
 use lib.ListN.{length, replicate}
 use Rattle.sequence.specs.declared.ReasonNumbers.{ReasonNumbers}
-use Rattle.sequence.specs.LineList.{reasonAs, cardShown}
+use Rattle.sequence.specs.LineList.{reasonAs, badShown}
 use Rattle.survey.specs.declared.Ending.{Ending}
 use Rattle.survey.specs.declared.Ending.the-variants.{Unlisted, Finishes, Returns, Faults}
 use Rattle.survey.specs.declared.Reason.{Reason}
-use Rattle.survey.specs.declared.Reason.the-variants.{None, OfList}
+use Rattle.survey.specs.declared.Reason.the-variants.{None, OfList, Mark}
 use Rattle.survey.specs.declared.Walked.{Walked}
 use Rattle.survey.specs.declared.Walked.the-variants.{Faulty, Closed}
 use Rattle.survey.specs.declared.Report.{Report}
@@ -30,7 +30,7 @@ endingShown Finishes = endingAs 1 0 0 0
 endingShown Returns = endingAs 2 0 0 0
 endingShown (Faults n f reason) = endingAs 3 (f .code) n (f .place)
 
--- a fault's reason, none where there is no fault; and its number and value: 0 none, then those of the line list test
+-- a fault's reason, none where there is no fault; and its number and value: 0 none, then those of the line list test, 4 a missing mark
 abbrev pub reasonOf : Ending → Reason
 reasonOf (Unlisted code) = None
 reasonOf Finishes = None
@@ -39,7 +39,8 @@ reasonOf (Faults n f reason) = reason
 
 abbrev pub reasonShown : Reason → ReasonNumbers
 reasonShown None = reasonAs 0 0
-reasonShown (OfList card) = cardShown card
+reasonShown (OfList bad) = badShown bad
+reasonShown Mark = reasonAs 4 0
 
 -- the names, and zeros after them
 unfoldable pub padded : List ℕ → List ℕ

@@ -8,6 +8,7 @@ use Rattle.memory.specs.declared.Format.{Format}
 use Rattle.memory.specs.Memory.{placeAt}
 use Rattle.sequence.specs.declared.Fault.{Fault}
 use Rattle.sequence.specs.declared.ListCard.{ListCard}
+use Rattle.sequence.specs.declared.ListCard.the-variants.{Good, Bad}
 use Rattle.sequence.specs.declared.Header.{Header}
 use Rattle.sequence.specs.declared.Header.the-variants.{Repeats, Bad}
 use Rattle.sequence.specs.Text.{fault, sizeAt, headerOf}
@@ -24,7 +25,7 @@ use Rattle.survey.specs.declared.Item.the-variants.{Pause, Scan}
 use Rattle.survey.specs.declared.Closing.{Closing}
 use Rattle.survey.specs.declared.Closing.the-variants.{Terminates, CallsOn}
 use Rattle.survey.specs.declared.Reason.{Reason}
-use Rattle.survey.specs.declared.Reason.the-variants.{None, OfList}
+use Rattle.survey.specs.declared.Reason.the-variants.{None, OfList, Mark}
 use Rattle.survey.specs.Items.{itemSteps, itemExposures}
 
 -- what the check finds: steps, exposures and items of a round, the closing command's place and what it does; or a fault and its reason
@@ -65,9 +66,14 @@ abbrev pub closed : List ℕ → ℕ → ℕ → Opened → Finding → Finding
 closed text q t Shut found = found
 closed text q t (Open r c left) found = inFront text (scan text (r .0) t q) found
 
--- "the table check .. show[s] the reason": of a 7 what the line list test answers for the list that the run raster at its place names
+-- "the table check .. show[s] the reason": of a 7 what the line list test answers for the list that the run raster at its place names;
+-- where that is good, a mark is missing
+abbrev pub reasonIn : ListCard → Reason
+reasonIn (Good marks) = Mark
+reasonIn (Bad bad) = OfList bad
+
 abbrev pub reasonFor : (ℕ → ListCard) → List ℕ → Fault → Reason
-reasonFor cards text f = cond (eqb (f .code) 7) (OfList (cards (rasterAt text (f .place) .list))) None
+reasonFor cards text f = cond (eqb (f .code) 7) (reasonIn (cards (rasterAt text (f .place) .list))) None
 
 -- what an act at p comes to; o: the open raster, go: the walk of the text after this command
 unfoldable pub walked : (ℕ → ListCard) → List ℕ → (ℕ → Opened → Finding) → ℕ → Opened → Act → Finding

@@ -18,6 +18,7 @@ use memory::Place;
 use memory::Placed;
 use runner::Act;
 use runner::Opened;
+use sequence::BadList;
 use sequence::Fault;
 use sequence::Header;
 use sequence::ListCard;
@@ -36,10 +37,11 @@ pub enum Closing {
     CallsOn(u8),
 }
 
-// Why a fault is one, beyond its code: of a bad line list what its test answers, of any other nothing.
+// Why a fault is one, beyond its code: what makes a line list bad, or a mark that a raster misses in a good one; of any other nothing.
 pub enum Reason {
     None,
-    OfList(ListCard),
+    OfList(BadList),
+    Mark,
 }
 
 // What one sequence's text comes to: a fault; or its closing command with its place, and the steps and exposures of all rounds.
@@ -386,7 +388,11 @@ impl Reason {
                 number: 0,
                 value: 0,
             },
-            Reason::OfList(card) => card.shown(),
+            Reason::OfList(bad) => bad.shown(),
+            Reason::Mark => ReasonNumbers {
+                number: 4,
+                value: 0,
+            },
         }
     }
 }
@@ -402,7 +408,8 @@ fn list_named(format: Format, text: &[u8], number: u8) -> u8
     }
 }
 
-// The reason of a fault in a text: of a 7 what the test answers for the line list that the run raster at its place names.
+// The reason of a fault in a text: of a 7 what the test answers for the line list that the run raster at its place names; where that is
+// good, a mark is missing.
 fn reason_for(format: Format, text: &[u8], lists: &[u8], fault: Fault) -> Reason
     requires { ⌜ length (now text) ≤ format .size ⌝ }
     ensures { λ r. ⌜ r ≡ reasonFor (cardsOf (now (lists .entry))) (now (text .entry)) fault ⌝ }
@@ -411,7 +418,10 @@ fn reason_for(format: Format, text: &[u8], lists: &[u8], fault: Fault) -> Reason
         return Reason::None;
     }
     let n = list_named(format, text, fault.place);
-    Reason::OfList(sequence::list_card(memory::list(lists, n)))
+    match sequence::list_card(memory::list(lists, n), false) {
+        ListCard::Good(_) => Reason::Mark,
+        ListCard::Bad(bad) => Reason::OfList(bad),
+    }
 }
 
 // How a chain ends, with the reason of a fault: it is found once, when it is reported.

@@ -3,8 +3,10 @@
 use libc::STDIN_FILENO;
 use libc::STDOUT_FILENO;
 use line::Numeral;
+use sequence::BadList;
 use sequence::Fault;
 use sequence::ListCard;
+use sequence::Marks;
 use survey::Ending;
 use survey::Reason;
 use survey::Report;
@@ -24,16 +26,24 @@ fn put_chain(text: &mut [u8], at: usize, listed: &[u8; memory::SEQUENCES], count
     line::put_numbers(text, at, octets::part(listed, 0, count))
 }
 
-// What is wrong with a line list, and the checksum expected; of a good one nothing.
-fn put_reason(text: &mut [u8], at: usize, card: ListCard) -> usize {
-    match card {
-        ListCard::Good => at,
-        ListCard::WindowCount => line::put_word(text, at, b" REASON count"),
-        ListCard::Length => line::put_word(text, at, b" REASON length"),
-        ListCard::Checksum(expected) => {
+// What is wrong with a line list, and the checksum expected.
+fn put_bad(text: &mut [u8], at: usize, bad: BadList) -> usize {
+    match bad {
+        BadList::WindowCount => line::put_word(text, at, b" REASON count"),
+        BadList::Length => line::put_word(text, at, b" REASON length"),
+        BadList::Checksum(expected) => {
             let p = line::put_word(text, at, b" REASON checksum ");
             line::put_octet(text, p, expected)
         }
+    }
+}
+
+// A fault's reason, where it has one.
+fn put_reason(text: &mut [u8], at: usize, reason: Reason) -> usize {
+    match reason {
+        Reason::None => at,
+        Reason::OfList(bad) => put_bad(text, at, bad),
+        Reason::Mark => line::put_word(text, at, b" REASON mark"),
     }
 }
 
@@ -65,10 +75,7 @@ fn put_fault(
     p = line::put_blank_number(text, p, sequence as u64);
     p = line::put_blank_number(text, p, fault.place as u64);
     p = put_chain(text, p, &listed, report.count);
-    match reason {
-        Reason::None => p,
-        Reason::OfList(card) => put_reason(text, p, card),
-    }
+    put_reason(text, p, reason)
 }
 
 // What a report tells, by its ending.
@@ -90,13 +97,38 @@ fn put_report(text: &mut [u8], at: usize, word: &[u8], report: Report) -> usize 
     line::put(text, p, b'\n')
 }
 
-// Whether the test finds a line list good, and what is wrong where it does not.
+// The number of a header bit that is marked, behind a blank where it is the first of them.
+fn put_mark(text: &mut [u8], begun: usize, at: usize, marked: bool, bit: u8) -> usize {
+    if !marked {
+        return at;
+    }
+    let between = if at == begun { b' ' } else { b',' };
+    let p = line::put(text, at, between);
+    line::put_number(text, p, bit as u64)
+}
+
+// The header bits that are marked, or a dash.
+fn put_marks(text: &mut [u8], at: usize, marks: Marks) -> usize {
+    let mut p = put_mark(text, at, at, marks.aec, 11);
+    p = put_mark(text, at, p, marks.event, 12);
+    p = put_mark(text, at, p, marks.flare, 13);
+    if p == at {
+        line::put_word(text, p, b" -")
+    } else {
+        p
+    }
+}
+
+// Whether the test finds a line list good, with its marks, and what is wrong where it does not.
 fn put_card(text: &mut [u8], at: usize, card: ListCard) -> usize {
     match card {
-        ListCard::Good => line::put_word(text, at, b" GOOD"),
-        ListCard::WindowCount | ListCard::Length | ListCard::Checksum(_) => {
+        ListCard::Good(marks) => {
+            let p = line::put_word(text, at, b" GOOD");
+            put_marks(text, p, marks)
+        }
+        ListCard::Bad(bad) => {
             let p = line::put_word(text, at, b" BAD");
-            put_reason(text, p, card)
+            put_bad(text, p, bad)
         }
     }
 }
@@ -125,7 +157,12 @@ fn show_lists(lists: &[u8], text: &mut [u8]) {
     let mut end = 0;
     let mut n: u8 = 0;
     while n <= memory::LAST_LINE_LIST {
-        end = put_list(text, end, n, sequence::list_card(memory::list(lists, n)));
+        end = put_list(
+            text,
+            end,
+            n,
+            sequence::list_card(memory::list(lists, n), true),
+        );
         n += 1;
     }
     io::write_all(STDOUT_FILENO, octets::part(text, 0, end));

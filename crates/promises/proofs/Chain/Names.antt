@@ -10,17 +10,21 @@ use Rattle.octets.proofs.Bools.{by-test}
 use Rattle.memory.specs.declared.Format.{Format}
 use Rattle.memory.specs.Memory.{entryOf}
 use Rattle.sequence.specs.declared.Fault.{Fault}
+use Rattle.sequence.specs.declared.ListCard.{ListCard}
+use Rattle.sequence.specs.declared.ListCard.the-variants.{Good, Bad}
 use Rattle.sequence.specs.Starts.{among}
+use Rattle.sequence.specs.Raster.{rasterAt}
 use Rattle.sequence.specs.Env.{Env, envOf, textOf}
 use Rattle.survey.specs.declared.Closing.the-variants.{Terminates, CallsOn}
 use Rattle.survey.specs.declared.Ending.{Ending}
 use Rattle.survey.specs.declared.Ending.the-variants.{Unlisted, Finishes, Returns, Faults}
 use Rattle.survey.specs.declared.Reason.{Reason}
-use Rattle.survey.specs.Walk.{Finding, passes, faults, findingOf}
+use Rattle.runner.proofs.Exactly.{ListRefused}
+use Rattle.survey.specs.Walk.{Finding, passes, faults, reasonIn, findingOf}
 use Rattle.survey.specs.Chain.{Told, told, total, onward, follow, chainOf}
 use Rattle.survey.specs.Report.{endingShown}
 use Rattle.survey.proofs.Reasons.{one-right}
-use Rattle.promises.specs.Demand3.{Reasoned, Chain, last-terminates, last-returns, last-faulty, then-called, Differ, Lists}
+use Rattle.promises.specs.Demand3.{SevenFor, Reasoned, Chain, last-terminates, last-returns, last-faulty, then-called, Differ, Lists}
 use Rattle.promises.proofs.Chain.Listing.{unlisted, unlisted-most, unlisted-less, all-listed, among-first, among-case, follow-all}
 use Rattle.promises.proofs.Chain.Never.{called-known}
 use Rattle.promises.proofs.Chain.Chains.{chainIn}
@@ -94,15 +98,17 @@ module _ (F : Format) (lists seqs : List ℕ) where
   fresh-follow = follow-all found (λ before t. Fresh before (t .names)) (λ before. tt) (λ before n go e ih. fresh-onward before n go ih e (found n))
 
   -- ── a fault's reason
+  seven-for : (card : ListCard) (science : ℕ) (reason : Reason) → reason ≡ reasonIn card → ListRefused card science → SevenFor card science reason
+  seven-for (Good marks) science reason e missing = (e, missing)
+  seven-for (Bad bad) science reason e _ = e
+
   fault-reasoned : (n : ℕ) (f : Fault) (reason : Reason) → found n ≡ faults f reason → Reasoned (entryOf F seqs n) lists f reason
   fault-reasoned n f reason says =
       let right = one-right E (entryOf F seqs n) f reason says in
+      let raster = rasterAt (entryOf F seqs n) (f .place) in
       record {
         seven =
-            λ e.
-            let (run, bad, _) = right .bad e in
-            let list = rw (eq-eqb (f .code) 7 e) at (right .told) in
-            (run, list, rw list bad);
+            λ e. let (run, _, why) = right .refused e in (run, seven-for (E .cards (raster .list)) (raster .science) reason (rw (eq-eqb (f .code) 7 e) at (right .told)) why);
         other = λ d. rw (ne-eqb (f .code) 7 d) at (right .told);
       }
 

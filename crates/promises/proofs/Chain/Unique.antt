@@ -13,14 +13,18 @@ use Rattle.octets.proofs.Bools.{by-test}
 use Rattle.memory.specs.declared.Format.{Format}
 use Rattle.memory.specs.Memory.{entryOf}
 use Rattle.sequence.specs.declared.Fault.{Fault}
+use Rattle.sequence.specs.declared.ListCard.{ListCard}
+use Rattle.sequence.specs.declared.ListCard.the-variants.{Good, Bad}
 use Rattle.sequence.specs.Starts.{among}
+use Rattle.sequence.specs.Raster.{rasterAt}
+use Rattle.sequence.specs.Env.{cardsOf}
 use Rattle.sequence.specs.declared.Command.{Command}
 use Rattle.sequence.specs.declared.Command.the-variants.{CallSequence, Terminate}
 use Rattle.survey.specs.declared.Ending.{Ending}
 use Rattle.survey.specs.declared.Ending.the-variants.{Unlisted, Finishes, Returns, Faults}
 use Rattle.survey.specs.declared.Reason.{Reason}
 use Rattle.promises.specs.Kept.{IsPassed}
-use Rattle.promises.specs.Demand3.{lastOf, Calling, Reasoned, Chain, last-terminates, last-returns, last-faulty, then-called, Differ}
+use Rattle.promises.specs.Demand3.{lastOf, Calling, SevenFor, Reasoned, Chain, last-terminates, last-returns, last-faulty, then-called, Differ}
 use Rattle.promises.proofs.Chain.Listing.{among-first, among-case}
 
 -- ── names that differ
@@ -93,11 +97,16 @@ module _ (F : Format) (seqs lists : List ℕ) where
   told-why (last-faulty r) = r
   told-why (then-called a c) = told-why c
 
+  one-seven : (card : ListCard) (science : ℕ) {r r′ : Reason} → SevenFor card science r → SevenFor card science r′ → r ≡ r′
+  one-seven (Good marks) science (e, _) (e′, _) = e ∙ sym e′
+  one-seven (Bad bad) science e e′ = e ∙ sym e′
+
   pub one-reason : {listed listed′ names names′ : List ℕ} {n n′ q : ℕ} {f : Fault} {r r′ : Reason}
       → Chain F seqs lists listed n names (Faults q f r) → Chain F seqs lists listed′ n′ names′ (Faults q f r′) → r ≡ r′
-  one-reason {f} c c′ =
+  one-reason {q} {f} c c′ =
+      let raster = rasterAt (entryOf F seqs q) (f .place) in
       by-test (eqb (f .code) 7)
-      (λ e. let w = eqb-true (f .code) 7 e in told-why c .seven w .1 ∙ sym (told-why c′ .seven w .1))
+      (λ e. let w = eqb-true (f .code) 7 e in one-seven (cardsOf lists (raster .list)) (raster .science) (told-why c .seven w .1) (told-why c′ .seven w .1))
       (λ e. let w = eqb-false (f .code) 7 e in told-why c .other w ∙ sym (told-why c′ .other w))
 
   fault-among : {listed names : List ℕ} {n q : ℕ} {e : Ending} → Chain F seqs lists listed n names e → faultAt e ≡ suc q → among q names ≡ true

@@ -59,9 +59,9 @@ pub record Sound (raster : RasterWords) : Type 0 where
 pub sound : (E : Env) (raster : RasterWords) (begun : ℕ) → NoneHolds (rasterRows (E .cards) raster begun) → Sound raster
 unfolding rasterRows pathRows
 sound E raster begun h =
-    let (counts, rest) = none-split (countRows raster) (listRows (E .cards) raster ++ (pathRows raster begun ++ flagRows raster)) h in
-    let (list, more) = none-split (listRows (E .cards) raster) (pathRows raster begun ++ flagRows raster) rest in
-    let path = none-split (pathRows raster begun) (flagRows raster) more .0 in
+    let (counts, rest) = none-split (countRows raster) (listRows (E .cards) raster ++ (pathRows raster begun ++ flagRows (E .cards) raster)) h in
+    let (list, more) = none-split (listRows (E .cards) raster) (pathRows raster begun ++ flagRows (E .cards) raster) rest in
+    let path = none-split (pathRows raster begun) (flagRows (E .cards) raster) more .0 in
     record {
       loops = omega (arith, eqb-false (raster .loops) 0 (counts .0));
       repeats = omega (arith, eqb-false (raster .repeats) 0 (counts .1 .0));

@@ -1,4 +1,4 @@
--- Each card's row.
+-- Good, or what is wrong.
 use mathlib.Core.Path.{sym, ap, _∙_}
 use borrow.Author.Needs.{needs}
 use Rattle.sequence.specs.LineList.{cardShown}
@@ -13,11 +13,5 @@ shown-spec =
     (λ c κs. search needs)
     (λ c. search needs)
     (λ c κs. search needs)
-    (λ c. search needs)
-    (λ c κs. search needs)
-    (λ c. search needs)
-    (λ c κs. search needs)
     (λ c. c .reason-as .ensures ∙ ap cardShown (sym (c .before .enum-told .given .1)))
-    (λ c. c .reason-as2 .ensures ∙ ap cardShown (sym (c .before .enum-told2 .given .1)))
-    (λ c. c .reason-as3 .ensures ∙ ap cardShown (sym (c .before .enum-told3 .given .1)))
-    (λ c. c .reason-as4 .ensures ∙ ap cardShown (sym (c .before .before .self .given .1))))
+    (λ c. c .shown .ensures ∙ ap cardShown (sym (c .before .before .self .given .1))))
