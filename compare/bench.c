@@ -25,8 +25,9 @@ static uint8_t lists[PLAIN_LINE_LISTS];
 static uint8_t out[PLAIN_OUTPUT];
 static uint8_t report[PLAIN_REPORT];
 
-/* The call to measure, and the state that it starts from. */
+/* The call to measure, the kind of its tables, and the state that it starts from. */
 static struct {
+    uint32_t kind;
     uint8_t start[PLAIN_STATE];
     uint8_t packet[133];
     size_t packet_len;
@@ -37,51 +38,51 @@ static struct {
 static void keel_one_packet(void)
 {
     memcpy(state, now.start, sizeof state);
-    keel_packet(state, sizeof state, seqs, sizeof seqs, lists, sizeof lists, out, sizeof out, 0, now.packet,
-                now.packet_len);
+    keel_packet(now.kind, state, sizeof state, seqs, sizeof seqs, lists, sizeof lists, out, sizeof out, 0,
+                now.packet, now.packet_len);
 }
 
 static void plain_one_packet(void)
 {
     memcpy(state, now.start, sizeof state);
-    plain_packet(state, sizeof state, seqs, sizeof seqs, lists, sizeof lists, out, sizeof out, 0, now.packet,
-                 now.packet_len);
+    plain_packet(now.kind, state, sizeof state, seqs, sizeof seqs, lists, sizeof lists, out, sizeof out, 0,
+                 now.packet, now.packet_len);
 }
 
 static void keel_one_step(void)
 {
     memcpy(state, now.start, sizeof state);
-    keel_step(state, sizeof state, seqs, sizeof seqs, lists, sizeof lists);
+    keel_step(now.kind, state, sizeof state, seqs, sizeof seqs, lists, sizeof lists);
 }
 
 static void plain_one_step(void)
 {
     memcpy(state, now.start, sizeof state);
-    plain_step(state, sizeof state, seqs, sizeof seqs, lists, sizeof lists);
+    plain_step(now.kind, state, sizeof state, seqs, sizeof seqs, lists, sizeof lists);
 }
 
 static void keel_one_check(void)
 {
-    keel_check(seqs, sizeof seqs, lists, sizeof lists, 0, report, sizeof report);
+    keel_check(now.kind, seqs, sizeof seqs, lists, sizeof lists, 0, report, sizeof report);
 }
 
 static void plain_one_check(void)
 {
-    plain_check(seqs, sizeof seqs, lists, sizeof lists, 0, report, sizeof report);
+    plain_check(now.kind, seqs, sizeof seqs, lists, sizeof lists, 0, report, sizeof report);
 }
 
 static void keel_run(void)
 {
     memcpy(state, now.start, sizeof state);
     for (int i = 0; i < RUN; i++)
-        keel_step(state, sizeof state, seqs, sizeof seqs, lists, sizeof lists);
+        keel_step(now.kind, state, sizeof state, seqs, sizeof seqs, lists, sizeof lists);
 }
 
 static void plain_run(void)
 {
     memcpy(state, now.start, sizeof state);
     for (int i = 0; i < RUN; i++)
-        plain_step(state, sizeof state, seqs, sizeof seqs, lists, sizeof lists);
+        plain_step(now.kind, state, sizeof state, seqs, sizeof seqs, lists, sizeof lists);
 }
 
 /* ---- Measuring ---- */
@@ -160,7 +161,8 @@ static void packet_row(const char *name, const uint8_t *packet, size_t length)
 
 static void obey(const uint8_t *packet, size_t length)
 {
-    plain_packet(state, sizeof state, seqs, sizeof seqs, lists, sizeof lists, out, sizeof out, 0, packet, length);
+    plain_packet(now.kind, state, sizeof state, seqs, sizeof seqs, lists, sizeof lists, out, sizeof out, 0, packet,
+                 length);
 }
 
 /* Puts the unit in MANUAL, or with sequence 0 just started. */
@@ -179,18 +181,18 @@ static void start(bool running)
 static void chain_row(unsigned n)
 {
     char name[40];
-    make_ring(seqs, lists, n, 0);
+    make_ring(PLAIN_NEW, seqs, lists, n, 0);
     snprintf(name, sizeof name, "check, a sequence of a chain of %u", n);
     row_of_many(name, keel_one_check, plain_one_check, n);
 }
 
-/* A step of a kind: the nth one after the start. */
-static void step_row(const char *name, unsigned kind, unsigned nth)
+/* A step with this event: the nth one after the start. */
+static void step_row(const char *name, unsigned event, unsigned nth)
 {
     start(true);
     while (nth > 0) {
         memcpy(now.start, state, sizeof state);
-        nth -= (plain_step(state, sizeof state, seqs, sizeof seqs, lists, sizeof lists) & 0xFF) == kind;
+        nth -= (plain_step(now.kind, state, sizeof state, seqs, sizeof seqs, lists, sizeof lists) & 0xFF) == event;
     }
     row(name, keel_one_step, plain_one_step);
 }
@@ -208,7 +210,7 @@ int main(int argc, char **argv)
         count.keel = argv[2][0] == 'k';
         count.times = strtoul(argv[3], NULL, 10);
     }
-    make_ring(seqs, lists, 128, 0);
+    make_ring(PLAIN_NEW, seqs, lists, 128, 0);
     memcpy(uplink + 5, seqs, 128);
     start(false);
     packet_row("status", status, sizeof status);
@@ -230,8 +232,13 @@ int main(int argc, char **argv)
     chain_row(16);
     chain_row(64);
     chain_row(128);
-    make_ring(seqs, lists, 128, PLAIN_AEC);
+    make_ring(PLAIN_NEW, seqs, lists, 128, PLAIN_AEC);
     step_row("step: run raster with a flag", PLAIN_RASTER, 8);
     row("check of 128, a flag in each raster", keel_one_check, plain_one_check);
+    now.kind = PLAIN_OLD;
+    make_ring(PLAIN_OLD, seqs, lists, 64, 0);
+    start(true);
+    row("1,000 steps of a run, old kind", keel_run, plain_run);
+    row("check of 64 full sequences, old kind", keel_one_check, plain_one_check);
     return 0;
 }

@@ -1,7 +1,8 @@
 /*
  * driver SEED ROUNDS: the proved library beside the plain one. Both are given the same bytes, call by
  * call, and every answer, state, table, output and report must be the same to the byte, also past the
- * end of what was lent. The first disagreement is shown and ends the run with status 1.
+ * end of what was lent. The first disagreement is shown and ends the run with status 1. A round is of
+ * tables of one kind or the other; a few of its calls are of the other kind, or of a number that is none.
  */
 #include "keel.h"
 #include "make.h"
@@ -23,10 +24,14 @@ struct side {
 };
 static struct side keel, plain;
 
+/* The kind that a round's tables, states and packets are made for. */
+static uint32_t round_kind;
+
 /* The call under way, for showing it. */
 static struct {
     const char *call;
     unsigned long seed, round;
+    uint32_t kind;
     size_t state_len, seqs_len, lists_len, out_len, report_len, packet_len;
     uint32_t time, number;
     uint8_t before[PLAIN_STATE];
@@ -34,12 +39,16 @@ static struct {
     uint64_t keel_answer, plain_answer;
 } now;
 
-/* What has been seen. */
+/* What has been seen: of calls with a kind, by their kind, and last those with none. */
+enum { NO_KIND = PLAIN_OLD + 1, KINDS };
 static struct {
-    unsigned long power_on, packets, steps, checks, runs, turns;
+    unsigned long packets, steps, far, checks;
     unsigned long codes[18], events[12], aborts[16], passes[3], faults[16], reasons[5], refused[17];
     unsigned longest_chain;
-} seen;
+} seen[KINDS];
+static struct {
+    unsigned long power_on, runs, turns;
+} seen_in_all;
 
 /* ---- Showing a disagreement ---- */
 
@@ -63,14 +72,17 @@ static void show_difference(const char *name, const uint8_t *k, const uint8_t *p
 
 static void disagree(void)
 {
-    printf("DISAGREE at %s, seed %lu, round %lu\n", now.call, now.seed, now.round);
+    printf("DISAGREE at %s, kind %lu, seed %lu, round %lu of kind %lu\n", now.call, (unsigned long)now.kind,
+           now.seed, now.round, (unsigned long)round_kind);
     printf("sizes         state %zu, sequences %zu, line lists %zu, output %zu, report %zu\n", now.state_len,
            now.seqs_len, now.lists_len, now.out_len, now.report_len);
     show("state before", now.before, PLAIN_STATE);
     show("keel state", keel.state, PLAIN_STATE);
     show("plain state", plain.state, PLAIN_STATE);
-    if (now.before[16] < 128)
-        show("its sequence", plain.seqs + 128 * now.before[16], 128);
+    if (now.kind < NO_KIND && now.before[16] < make_count(now.kind)) {
+        size_t entry = make_entry(now.kind);
+        show("its sequence", plain.seqs + entry * now.before[16], entry);
+    }
     printf("time %lu, number %lu\n", (unsigned long)now.time, (unsigned long)now.number);
     show("packet", now.packet, now.packet_len);
     show("keel report", keel.report, PLAIN_REPORT);
@@ -103,6 +115,7 @@ static void compare_all(void)
 
 static void good_sizes(void)
 {
+    now.kind = round_kind;
     now.state_len = PLAIN_STATE;
     now.seqs_len = PLAIN_SEQUENCES;
     now.lists_len = PLAIN_LINE_LISTS;
@@ -120,9 +133,21 @@ static size_t wrong_size(size_t good)
     }
 }
 
+/* The kind that the round is not of, or a number that is none. */
+static uint32_t another_kind(void)
+{
+    static const uint32_t none[] = {2, 3, 127, 128, 255, 256, 257, 65536, 65537, 0x80000000, 0xFFFFFFFF};
+    if (chance(50))
+        return PLAIN_OLD - round_kind;
+    return chance(80) ? none[any(sizeof none / sizeof *none)] : NO_KIND + any(0xFFFFFFFF - PLAIN_OLD);
+}
+
+/* Good sizes and the round's kind, but for a few. */
 static void some_sizes(unsigned percent_wrong)
 {
     good_sizes();
+    if (chance(6))
+        now.kind = another_kind();
     while (chance(percent_wrong)) {
         switch (any(5)) {
         case 0: now.state_len = wrong_size(PLAIN_STATE); break;
@@ -141,11 +166,17 @@ static void begin(const char *call)
     memcpy(now.before, plain.state, PLAIN_STATE);
 }
 
+/* Where the call under way is counted. */
+static unsigned counted(void)
+{
+    return now.kind < NO_KIND ? now.kind : NO_KIND;
+}
+
 static void power_on(void)
 {
     begin("power on");
     compare_answers(keel_power_on(keel.state, now.state_len), plain_power_on(plain.state, now.state_len));
-    seen.power_on++;
+    seen_in_all.power_on++;
 }
 
 static void packet(size_t length)
@@ -155,55 +186,62 @@ static void packet(size_t length)
     begin("packet");
     now.packet_len = length;
     now.time = chance(50) ? any(0xFFFFFFFF) : 0xFFFFFFFF;
-    k = keel_packet(keel.state, now.state_len, keel.seqs, now.seqs_len, keel.lists, now.lists_len, keel.out,
-                    now.out_len, now.time, now.packet, length);
-    p = plain_packet(plain.state, now.state_len, plain.seqs, now.seqs_len, plain.lists, now.lists_len, plain.out,
-                     now.out_len, now.time, now.packet, length);
+    k = keel_packet(now.kind, keel.state, now.state_len, keel.seqs, now.seqs_len, keel.lists, now.lists_len,
+                    keel.out, now.out_len, now.time, now.packet, length);
+    p = plain_packet(now.kind, plain.state, now.state_len, plain.seqs, now.seqs_len, plain.lists, now.lists_len,
+                     plain.out, now.out_len, now.time, now.packet, length);
     compare_answers(k, p);
     compare_all();
-    seen.packets++;
-    seen.codes[p & 0xFF]++;
+    seen[counted()].packets++;
+    seen[counted()].codes[p & 0xFF]++;
 }
 
 /* Answers whether the unit goes on. */
 static bool step(void)
 {
+    unsigned of = counted();
     uint64_t k, p;
 
     begin("step");
-    k = keel_step(keel.state, now.state_len, keel.seqs, now.seqs_len, keel.lists, now.lists_len);
-    p = plain_step(plain.state, now.state_len, plain.seqs, now.seqs_len, plain.lists, now.lists_len);
+    k = keel_step(now.kind, keel.state, now.state_len, keel.seqs, now.seqs_len, keel.lists, now.lists_len);
+    p = plain_step(now.kind, plain.state, now.state_len, plain.seqs, now.seqs_len, plain.lists, now.lists_len);
     compare_answers(k, p);
-    seen.steps++;
-    seen.events[p & 0xFF]++;
+    seen[of].steps++;
+    seen[of].events[p & 0xFF]++;
+    if (p != PLAIN_IDLE && (p & 0xFF) < PLAIN_ABORT && now.before[17] > 127)
+        seen[of].far++;
     if ((p & 0xFF) == PLAIN_ABORT)
-        seen.aborts[p >> 16 & 0xFFFF]++;
+        seen[of].aborts[p >> 16 & 0xFFFF]++;
     return p != PLAIN_IDLE && (p & 0xFF) != PLAIN_REFUSED;
 }
 
 static void check(uint32_t number)
 {
+    unsigned of = counted(), count;
     uint32_t k, p;
-    unsigned count;
 
     begin("check");
     now.number = number;
-    k = keel_check(keel.seqs, now.seqs_len, keel.lists, now.lists_len, number, keel.report, now.report_len);
-    p = plain_check(plain.seqs, now.seqs_len, plain.lists, now.lists_len, number, plain.report, now.report_len);
+    k = keel_check(now.kind, keel.seqs, now.seqs_len, keel.lists, now.lists_len, number, keel.report,
+                   now.report_len);
+    p = plain_check(now.kind, plain.seqs, now.seqs_len, plain.lists, now.lists_len, number, plain.report,
+                    now.report_len);
     compare_answers(k, p);
     compare_all();
-    seen.checks++;
+    seen[of].checks++;
     if (now.report_len != PLAIN_REPORT || plain.report[1] == PLAIN_NOTHING) {
-        seen.refused[p]++;
-    } else if (plain.report[1] == PLAIN_FAULT) {
-        seen.faults[p]++;
-        seen.reasons[plain.report[4]]++;
-    } else {
-        seen.passes[plain.report[1]]++;
+        seen[of].refused[p]++;
+        return;
     }
+    if (plain.report[1] == PLAIN_FAULT) {
+        seen[of].faults[p]++;
+        seen[of].reasons[plain.report[4]]++;
+        return;
+    }
+    seen[of].passes[plain.report[1]]++;
     count = plain.report[6] * 256u + plain.report[7];
-    if (now.report_len == PLAIN_REPORT && count > seen.longest_chain)
-        seen.longest_chain = count;
+    if (count > seen[of].longest_chain)
+        seen[of].longest_chain = count;
 }
 
 /* ---- Rounds ---- */
@@ -213,12 +251,15 @@ static void both_get(uint8_t *keel_part, const uint8_t *plain_part, size_t n)
     memcpy(keel_part, plain_part, n);
 }
 
-static void new_tables(void)
+/* Tables full of sequences, or empty ones with a few in use. */
+static void new_tables(bool full)
 {
     memset(plain.seqs, 0, PLAIN_SEQUENCES);
     memset(plain.lists, 0, PLAIN_LINE_LISTS);
-    if (chance(95))
-        make_tables(plain.seqs, plain.lists);
+    if (full)
+        make_tables(round_kind, plain.seqs, plain.lists);
+    else
+        make_taste(round_kind, 8, 3);
     both_get(keel.seqs, plain.seqs, PLAIN_SEQUENCES);
     both_get(keel.lists, plain.lists, PLAIN_LINE_LISTS);
 }
@@ -262,8 +303,9 @@ static void lone_steps(void)
 static void checks(void)
 {
     for (int i = 0; i < 50; i++) {
+        uint32_t count = make_count(round_kind);
         some_sizes(3);
-        check(chance(95) ? any(128) : chance(50) ? 128 + any(2) : any(0xFFFFFFFF));
+        check(chance(95) ? any(count) : chance(50) ? count + any(2) : any(0xFFFFFFFF));
     }
 }
 
@@ -271,58 +313,68 @@ static void checks(void)
 static void long_run(void)
 {
     good_sizes();
-    if (chance(40)) {
-        memset(plain.seqs, 0, PLAIN_SEQUENCES);
-        memset(plain.lists, 0, PLAIN_LINE_LISTS);
-        both_get(keel.seqs, plain.seqs, PLAIN_SEQUENCES);
-        both_get(keel.lists, plain.lists, PLAIN_LINE_LISTS);
-        make_taste(8, 3);
-    }
+    if (chance(40))
+        new_tables(false);
     power_on();
     for (int turn = 0; turn < 400; turn++) {
         unsigned steps;
         size_t length = make_turn(plain.state, now.packet, &steps);
+        now.kind = chance(1) ? another_kind() : round_kind;
         if (steps == 0)
             packet(length);
         while (steps-- > 0)
             step();
-        seen.turns++;
+        seen_in_all.turns++;
     }
     compare_all();
-    seen.runs++;
+    seen_in_all.runs++;
 }
 
 /* ---- What was seen ---- */
 
-static void row(const char *name, const unsigned long *counts, size_t n)
+/* The counts that are not 0, by name or else by number. */
+static void row(const char *name, const char *const *names, const unsigned long *counts, size_t n)
 {
     printf("  %s", name);
-    for (size_t i = 0; i < n; i++)
-        if (counts[i] > 0)
+    for (size_t i = 0; i < n; i++) {
+        if (counts[i] > 0 && names != NULL)
+            printf("  %s: %lu", names[i], counts[i]);
+        else if (counts[i] > 0)
             printf("  %zu: %lu", i, counts[i]);
+    }
     printf("\n");
+}
+
+/* Calls of one kind. */
+static void show_kind(unsigned of)
+{
+    static const char *const events[] = {"IDLE", "ENTER", "RASTER", "EXP", "LOOP",  "NEXT",
+                                         "DONE", "WAIT",  "CALL",   "END", "ABORT", "refused"};
+    static const char *const ends[] = {"nothing", "ends", "returns"};
+
+    printf("kind %u\n", of);
+    printf("packets    %10lu\n", seen[of].packets);
+    row("by code", NULL, seen[of].codes, 18);
+    printf("steps      %10lu, %lu of them obeyed at a place above 127\n", seen[of].steps, seen[of].far);
+    row("by event", events, seen[of].events, 12);
+    row("aborts by code", NULL, seen[of].aborts, 16);
+    printf("checks     %10lu, the longest chain that passes has %u\n", seen[of].checks, seen[of].longest_chain);
+    row("passes", ends, seen[of].passes, 3);
+    row("faults by code", NULL, seen[of].faults, 16);
+    row("faults by reason", NULL, seen[of].reasons, 5);
+    row("refused by code", NULL, seen[of].refused, 17);
 }
 
 static void show_counts(void)
 {
-    static const char *const events[] = {"IDLE", "ENTER", "RASTER", "EXP", "LOOP",  "NEXT",
-                                         "DONE", "WAIT",  "CALL",   "END", "ABORT", "refused"};
-
-    printf("power on   %10lu\n", seen.power_on);
-    printf("packets    %10lu\n", seen.packets);
-    row("by code", seen.codes, 18);
-    printf("steps      %10lu\n", seen.steps);
-    for (size_t i = 0; i < 12; i++)
-        printf("  %s: %lu", events[i], seen.events[i]);
-    printf("\n");
-    row("aborts by code", seen.aborts, 16);
-    printf("checks     %10lu\n", seen.checks);
-    printf("  ends: %lu  returns: %lu  longest chain: %u\n", seen.passes[PLAIN_ENDS], seen.passes[PLAIN_RETURNS],
-           seen.longest_chain);
-    row("faults by code", seen.faults, 16);
-    row("faults by reason", seen.reasons, 5);
-    row("refused by code", seen.refused, 17);
-    printf("long runs  %10lu, of %lu turns in all\n", seen.runs, seen.turns);
+    show_kind(PLAIN_NEW);
+    show_kind(PLAIN_OLD);
+    printf("no kind\n");
+    printf("packets    %10lu, %lu of them with code 16\n", seen[NO_KIND].packets, seen[NO_KIND].codes[16]);
+    printf("steps      %10lu, %lu of them refused\n", seen[NO_KIND].steps, seen[NO_KIND].events[PLAIN_REFUSED]);
+    printf("checks     %10lu, %lu of them with code 16\n", seen[NO_KIND].checks, seen[NO_KIND].refused[16]);
+    printf("power on   %10lu\n", seen_in_all.power_on);
+    printf("long runs  %10lu, of %lu turns in all\n", seen_in_all.runs, seen_in_all.turns);
 }
 
 int main(int argc, char **argv)
@@ -337,7 +389,8 @@ int main(int argc, char **argv)
     rounds = strtoul(argv[2], NULL, 10);
     make_seed(now.seed);
     for (now.round = 1; now.round <= rounds; now.round++) {
-        new_tables();
+        round_kind = any(2);
+        new_tables(chance(95));
         power_ons();
         checks();
         lone_steps();

@@ -1,6 +1,7 @@
 /*
- * made script SEED LINES: a script for the desk program, as an operator in a hurry types it.
- * made tables SEED: both tables, 24,256 raw bytes, for the table check at the desk.
+ * made script SEED LINES [old]: a script for the desk program, as an operator in a hurry types it.
+ * made tables SEED [old]: both tables, 24,256 raw bytes, for the table check at the desk.
+ * With `old` they are of the old kind, and for the programs' argument of that name.
  */
 #include "make.h"
 #include "plain.h"
@@ -30,11 +31,11 @@ static void print_bad(void)
 }
 
 /* The unit itself is run along, so that what comes next suits it. */
-static void print_script(unsigned long lines)
+static void print_script(uint32_t kind, unsigned long lines)
 {
     uint8_t packet[MAKE_LONGEST];
 
-    make_taste(8, 3);
+    make_taste(kind, 8, 3);
     plain_power_on(state, sizeof state);
     while (lines-- > 0) {
         unsigned steps;
@@ -44,27 +45,33 @@ static void print_script(unsigned long lines)
         } else if (steps > 0) {
             printf("STEP %u\n", steps);
             while (steps-- > 0)
-                plain_step(state, sizeof state, seqs, sizeof seqs, lists, sizeof lists);
+                plain_step(kind, state, sizeof state, seqs, sizeof seqs, lists, sizeof lists);
         } else {
             print_packet(packet, length);
-            plain_packet(state, sizeof state, seqs, sizeof seqs, lists, sizeof lists, out, sizeof out, 0, packet,
-                         length);
+            plain_packet(kind, state, sizeof state, seqs, sizeof seqs, lists, sizeof lists, out, sizeof out, 0,
+                         packet, length);
         }
     }
 }
 
 int main(int argc, char **argv)
 {
+    uint32_t kind = PLAIN_NEW;
+
+    if (argc > 1 && strcmp(argv[argc - 1], "old") == 0) {
+        kind = PLAIN_OLD;
+        argc--;
+    }
     if (argc == 4 && strcmp(argv[1], "script") == 0) {
         make_seed(strtoul(argv[2], NULL, 10));
-        print_script(strtoul(argv[3], NULL, 10));
+        print_script(kind, strtoul(argv[3], NULL, 10));
     } else if (argc == 3 && strcmp(argv[1], "tables") == 0) {
         make_seed(strtoul(argv[2], NULL, 10));
-        make_tables(seqs, lists);
+        make_tables(kind, seqs, lists);
         fwrite(seqs, 1, sizeof seqs, stdout);
         fwrite(lists, 1, sizeof lists, stdout);
     } else {
-        fputs("usage: made script SEED LINES | made tables SEED\n", stderr);
+        fputs("usage: made script SEED LINES [old] | made tables SEED [old]\n", stderr);
         return 2;
     }
     return 0;

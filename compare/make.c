@@ -2,10 +2,7 @@
 
 #include <string.h>
 
-enum { ENTRY = 128, LIST_ENTRY = 164, SEQUENCES = 128, LISTS = 48, NONE = 255, END_STOP = 2400 };
-
-/* The last place at which a closing command of two bytes fits before the checksum. */
-enum { LAST_CLOSING = ENTRY - 3 };
+enum { LARGEST_ENTRY = 256, LIST_ENTRY = 164, LISTS = 48, UPLINK = 128, NONE = 255, END_STOP = 2400 };
 
 /* ---- Chance ---- */
 
@@ -59,12 +56,66 @@ static uint8_t xor_over(const uint8_t *p, size_t n)
     return sum;
 }
 
+/* ---- The kind, and taste ---- */
+
+/* How a kind divides the sequence table, and how its tables are made. A long sequence has more in it that
+ * can be wrong: with the damage of short ones hardly a chain of them would pass. */
+static const struct format {
+    unsigned count;     /* entries */
+    unsigned entry;     /* bytes of one */
+    unsigned longest;   /* sequence that its length byte allows */
+    unsigned closed;    /* of a hundred sequences after each of their parts */
+    unsigned filled;    /* of a hundred sequences, with delays up to the longest */
+    unsigned unmarked;  /* of a hundred line lists, with no other damage */
+    uint8_t damages[7]; /* of whole tables */
+} formats[] = {
+    {128, 128, 128, 20, 0, 2, {0, 0, 1, 1, 3, 10, 30}},
+    {64, 256, 255, 8, 30, 1, {0, 0, 0, 0, 1, 3, 20}},
+};
+
+unsigned make_count(uint32_t kind)
+{
+    return formats[kind].count;
+}
+
+unsigned make_entry(uint32_t kind)
+{
+    return formats[kind].entry;
+}
+
+/* What the closing commands of a table do. */
+enum calls { MOSTLY_END, RING, SCATTERED_RING, ANYWHERE, ITSELF, CALL_KINDS };
+
+static struct {
+    const struct format *format;
+    enum calls calls;
+    bool large;         /* counts up to their largest */
+    unsigned sequences; /* how many of each are used */
+    unsigned lists;
+} taste = {.format = formats};
+
+/* What is left of a sequence that is longer than an uplink: the next uplink has it. */
+static struct {
+    uint8_t bytes[LARGEST_ENTRY - UPLINK];
+    unsigned address, count;
+} rest;
+
+void make_taste(uint32_t kind, unsigned sequences, unsigned lists)
+{
+    taste.format = &formats[kind];
+    taste.calls = (enum calls)any(CALL_KINDS);
+    taste.large = chance(30);
+    taste.sequences = sequences;
+    taste.lists = lists;
+    rest.count = 0;
+}
+
 /* ---- Line lists ---- */
 
 /* Gives one window all marks; seldom takes some of them away from every window within the count. */
 static void choose_marks(uint8_t *list, unsigned windows, unsigned damage)
 {
-    unsigned taken = chance(2 + damage) ? any(8) << 2 : 0;
+    unsigned taken = chance(taste.format->unmarked + damage) ? any(8) << 2 : 0;
 
     list[14 + 6 * any(windows) + 1] |= 0x1C;
     for (unsigned w = 0; w < windows; w++)
@@ -120,22 +171,10 @@ static void spoil_line_list(uint8_t *list)
 
 /* ---- Sequences ---- */
 
-/* What the closing commands of a table do. */
-enum calls { MOSTLY_END, RING, SCATTERED_RING, ANYWHERE, ITSELF, CALL_KINDS };
-
-static struct {
-    enum calls calls;
-    bool large;         /* counts up to their largest */
-    unsigned sequences; /* how many of each are used */
-    unsigned lists;
-} taste;
-
-void make_taste(unsigned sequences, unsigned lists)
+/* The last place at which a closing command of two bytes fits before the checksum. */
+static unsigned last_closing(void)
 {
-    taste.calls = (enum calls)any(CALL_KINDS);
-    taste.large = chance(30);
-    taste.sequences = sequences;
-    taste.lists = lists;
+    return taste.format->longest - 3;
 }
 
 static unsigned few_or_many(unsigned few, unsigned most)
@@ -250,7 +289,7 @@ static unsigned put_closing(uint8_t *text, unsigned at, unsigned own, unsigned d
     if (chance(damage))
         return at;
     if (chance(damage))
-        return put_call(text, at, chance(50) ? SEQUENCES : between(SEQUENCES, 255));
+        return put_call(text, at, chance(50) ? taste.format->count : between(taste.format->count, 255));
     switch (taste.calls) {
     case RING:
         return put_call(text, at, (own + 1) % taste.sequences);
@@ -273,8 +312,8 @@ static unsigned put_closing(uint8_t *text, unsigned at, unsigned own, unsigned d
 /* Commands in no order at all, with parameters that may fit or not. */
 static unsigned put_jumble(uint8_t *text, unsigned at)
 {
-    unsigned end = between(6, LAST_CLOSING), n = 0;
-    uint8_t starts[ENTRY];
+    unsigned end = between(6, last_closing()), n = 0;
+    uint8_t starts[LARGEST_ENTRY];
 
     while (at < end) {
         starts[n++] = (uint8_t)at;
@@ -285,70 +324,77 @@ static unsigned put_jumble(uint8_t *text, unsigned at)
             text[at++] = 0x92;
             text[at++] = chance(80) ? starts[any(n)] : (uint8_t)any(end);
             break;
-        case 8: at = put_call(text, at, any(140)); break;
+        case 8: at = put_call(text, at, any(taste.format->count + 12)); break;
         case 9: text[at++] = 0x94; break;
         case 10: text[at++] = (uint8_t)any(256); break;
         default: at = put_delay(text, at);
         }
     }
-    return at < ENTRY ? at : ENTRY - 1;
+    return at < taste.format->longest ? at : taste.format->longest - 1;
 }
 
 static unsigned put_commands(uint8_t *text, unsigned own, unsigned damage)
 {
+    const struct format *format = taste.format;
     unsigned at = 4;
 
-    while (!chance(20)) {
+    while (!chance(format->closed)) {
         unsigned next = chance(30) ? put_delay(text, at) : put_raster(text, at, damage);
-        if (next > LAST_CLOSING)
+        if (next > last_closing())
             break;
         at = next;
     }
+    if (format->filled > 0 && chance(format->filled))
+        while (at + 3 <= last_closing())
+            at = put_delay(text, at);
     at = put_closing(text, at, own, damage);
-    if (chance(damage) && at < ENTRY - 1)
+    if (chance(damage) && at < format->longest - 1)
         text[at++] = (uint8_t)(chance(50) ? 0x94 : any(256));
     return at;
 }
 
 size_t make_sequence(uint8_t *entry, unsigned own, unsigned damage)
 {
-    uint8_t text[2 * ENTRY + 64];
-    unsigned length;
+    uint8_t text[2 * LARGEST_ENTRY + 64];
+    unsigned size = taste.format->entry, length, checked;
 
-    noise_at(text, sizeof text);
+    noise_at(text, 2 * size + 64);
     if (chance(damage / 3)) {
-        memset(entry, 0, ENTRY);
+        memset(entry, 0, size);
         if (chance(50))
-            noise_at(entry, ENTRY);
-        return ENTRY;
+            noise_at(entry, size);
+        return size;
     }
     length = 1 + (chance(damage) ? put_jumble(text, 4) : put_commands(text, own, damage));
     text[0] = (uint8_t)length;
     text[3] = (uint8_t)(chance(damage) ? 0 : few_or_many(3, 255));
     if (chance(damage / 2))
         text[0] = (uint8_t)(chance(50) ? any(256) : length + 2 * any(2) - 1);
+    if (size == 256 && chance(damage / 2))
+        text[0] = 0;
     if (chance(damage))
         text[any(length)] = (uint8_t)any(256);
-    if (text[0] > 0 && text[0] <= ENTRY)
-        text[text[0] - 1] = xor_over(text, text[0] - 1u);
+    /* A length of 0 is to be refused for itself, and not for a wrong checksum of 256 bytes. */
+    checked = text[0] == 0 && size == 256 ? size : text[0];
+    if (checked > 0 && checked <= size)
+        text[checked - 1] = xor_over(text, checked - 1);
     if (chance(damage))
         text[any(length)] ^= (uint8_t)(1 << any(8));
-    memcpy(entry, text, ENTRY);
+    memcpy(entry, text, size);
     return length;
 }
 
-void make_tables(uint8_t *seqs, uint8_t *lists)
+void make_tables(uint32_t kind, uint8_t *seqs, uint8_t *lists)
 {
-    static const uint8_t damages[] = {0, 0, 1, 1, 3, 10, 30};
-    unsigned damage = damages[any(sizeof damages)];
+    unsigned damage = formats[kind].damages[any(sizeof formats->damages)];
 
-    make_taste(SEQUENCES, LISTS);
+    make_taste(kind, make_count(kind), LISTS);
     for (unsigned i = 0; i < LISTS; i++)
         make_line_list(lists + LIST_ENTRY * i, damage / 2);
     for (unsigned i = 0; i + 1 < LISTS; i++)
         mend_long_list(lists + LIST_ENTRY * i);
-    for (unsigned i = 0; i < SEQUENCES; i++)
-        make_sequence(seqs + ENTRY * i, i, damage);
+    for (unsigned i = 0; i < make_count(kind); i++)
+        make_sequence(seqs + make_entry(kind) * i, i, damage);
     for (unsigned i = 0; i < LISTS; i++)
         if (chance(damage / 2))
             spoil_line_list(lists + LIST_ENTRY * i);
@@ -362,18 +408,21 @@ static uint8_t *put(uint8_t *at, const uint8_t *bytes, size_t n)
     return at + n;
 }
 
-static void put_full_sequence(uint8_t *text, unsigned next, unsigned flags)
+/* As many rasters as fit, a delay in as many of them, the last ones, as there is room for then. */
+static void put_full_sequence(uint8_t *text, unsigned length, unsigned next, unsigned flags)
 {
     static const uint8_t raster[] = {0x90, 0, 7, 0, 100, 0, 2, 0, 0, 0, 0, 2, 1, 1, 0, 0xF0, 2, 0, 3, 0, 10, 0, 0};
     static const uint8_t delay[] = {0x95, 0, 5}, expose[] = {0x91, 0, 100};
+    unsigned room = length - 4 - 2 - 1, whole = sizeof raster + sizeof expose + 2;
+    unsigned rasters = room / whole, delays = room % whole / sizeof delay;
     uint8_t *at = text + 4;
 
-    text[0] = ENTRY;
+    text[0] = (uint8_t)length;
     text[3] = 1;
-    for (unsigned k = 0; k < 4; k++) {
+    for (unsigned k = rasters; k > 0; k--) {
         at = put(at, raster, sizeof raster);
         at[-1] = (uint8_t)flags;
-        if (k > 0)
+        if (k <= delays)
             at = put(at, delay, sizeof delay);
         at = put(at, expose, sizeof expose);
         *at++ = 0x92;
@@ -382,10 +431,10 @@ static void put_full_sequence(uint8_t *text, unsigned next, unsigned flags)
     }
     *at++ = 0x93;
     *at++ = (uint8_t)next;
-    *at = xor_over(text, ENTRY - 1);
+    *at = xor_over(text, length - 1);
 }
 
-void make_ring(uint8_t *seqs, uint8_t *lists, unsigned n, unsigned flags)
+void make_ring(uint32_t kind, uint8_t *seqs, uint8_t *lists, unsigned n, unsigned flags)
 {
     memset(lists, 0, LIST_ENTRY);
     lists[0] = LIST_ENTRY;
@@ -393,7 +442,7 @@ void make_ring(uint8_t *seqs, uint8_t *lists, unsigned n, unsigned flags)
     lists[LIST_ENTRY - 5] = (uint8_t)flags;
     lists[3] = xor_over(lists, LIST_ENTRY);
     for (unsigned i = 0; i < n; i++)
-        put_full_sequence(seqs + ENTRY * i, (i + 1) % n, flags);
+        put_full_sequence(seqs + formats[kind].entry * i, formats[kind].longest, (i + 1) % n, flags);
 }
 
 /* ---- States ---- */
@@ -408,6 +457,8 @@ enum {
 /* Anything in range. */
 static void state_in_range(uint8_t *s)
 {
+    unsigned count = taste.format->count, entry = taste.format->entry;
+
     noise_at(s, STATE);
     if (chance(10))
         memset(s + COUNTERS, 0xFF, 6);
@@ -417,14 +468,14 @@ static void state_in_range(uint8_t *s)
     s[ALLOWED] = (uint8_t)any(2);
     s[FAILED_CODE] &= 15;
     s[ABORT_CODE] &= 15;
-    s[SELECTION] = (uint8_t)(chance(20) ? NONE : any(SEQUENCES));
-    s[SEQUENCE] = (uint8_t)(chance(20) ? NONE : any(SEQUENCES));
-    s[PLACE] = (uint8_t)any(ENTRY);
+    s[SELECTION] = (uint8_t)(chance(20) ? NONE : any(count));
+    s[SEQUENCE] = (uint8_t)(chance(20) ? NONE : any(count));
+    s[PLACE] = (uint8_t)any(entry);
     s[LINE_LIST] = (uint8_t)any(LISTS);
     word_at(s + MIRROR, any(END_STOP + 1));
     s[RUNNING] = (uint8_t)(s[MODE] == 3 && s[SELECTION] != NONE && s[SEQUENCE] != NONE && chance(70));
     s[ENTERING] = (uint8_t)any(2);
-    s[RASTER] = (uint8_t)(chance(40) ? NONE : any(ENTRY));
+    s[RASTER] = (uint8_t)(chance(40) ? NONE : any(entry));
     s[SET] = (uint8_t)any(9);
 }
 
@@ -436,7 +487,7 @@ static unsigned count_left(unsigned most)
 /* A place where this number stands, be it a command's start or not; 4 if there is none. */
 static uint8_t some_place_of(const uint8_t *text, unsigned end, uint8_t number)
 {
-    uint8_t places[ENTRY] = {4};
+    uint8_t places[LARGEST_ENTRY] = {4};
     unsigned n = 0;
     for (unsigned at = 0; at < end; at++)
         if (text[at] == number)
@@ -449,17 +500,17 @@ static void state_in_text(uint8_t *s, const uint8_t *seqs)
 {
     static const uint8_t sizes[] = {23, 3, 2, 2, 1, 3};
     const uint8_t *text;
-    uint8_t starts[ENTRY];
-    unsigned n = 0, raster = NONE, chosen, end;
+    uint8_t starts[LARGEST_ENTRY];
+    unsigned count = taste.format->count, entry = taste.format->entry, n = 0, raster = NONE, chosen, end;
 
     state_in_range(s);
     s[MODE] = 3;
     s[RUNNING] = 1;
     s[ENTERING] = (uint8_t)chance(5);
-    s[SELECTION] = (uint8_t)any(SEQUENCES);
-    s[SEQUENCE] = (uint8_t)any(SEQUENCES);
-    text = seqs + ENTRY * s[SEQUENCE];
-    end = text[0] >= 6 && text[0] <= ENTRY ? text[0] : ENTRY;
+    s[SELECTION] = (uint8_t)any(count);
+    s[SEQUENCE] = (uint8_t)any(count);
+    text = seqs + entry * s[SEQUENCE];
+    end = text[0] >= 6 && text[0] <= entry ? text[0] : entry;
     for (unsigned at = 4; at < end; at += text[at] >= 0x90 && text[at] <= 0x95 ? sizes[text[at] - 0x90] : 1)
         starts[n++] = (uint8_t)at;
     chosen = any(n);
@@ -475,7 +526,7 @@ static void state_in_text(uint8_t *s, const uint8_t *seqs)
         raster = s[PLACE];
     s[RASTER] = (uint8_t)raster;
     if (raster != NONE) {
-        unsigned exposures = raster + 13 < ENTRY ? text[raster + 13] & 15 : 1, made = 0;
+        unsigned exposures = raster + 13 < entry ? text[raster + 13] & 15 : 1, made = 0;
         for (unsigned i = 0; i < chosen; i++)
             made += starts[i] > raster && text[starts[i]] == 0x91;
         s[SET] = (uint8_t)(chance(80) ? made : chance(50) ? exposures : any(9));
@@ -490,26 +541,28 @@ static void state_in_text(uint8_t *s, const uint8_t *seqs)
     word_at(s + REPEATS, count_left(65535));
     s[ROUNDS] = (uint8_t)count_left(255);
     if (chance(10))
-        s[PLACE] = chance(50) ? (uint8_t)any(ENTRY) : some_place_of(text, end, 0x92);
+        s[PLACE] = chance(50) ? (uint8_t)any(entry) : some_place_of(text, end, 0x92);
     if (chance(10))
-        s[RASTER] = chance(50) ? (uint8_t)any(ENTRY) : starts[any(n)];
+        s[RASTER] = chance(50) ? (uint8_t)any(entry) : starts[any(n)];
     if (chance(10))
         s[RASTER] = some_place_of(text, end, 0x90);
     if (chance(5))
         s[RASTER] = NONE;
 }
 
-/* One field just out of its range. */
+/* One field just out of its range; of the old kind a place is in range, be it above 127. */
 static void put_out_of_range(uint8_t *s)
 {
+    unsigned count = taste.format->count;
+
     switch (any(13)) {
     case 0: s[MODE] = 0; break;
     case 1: s[MODE] = (uint8_t)between(4, 255); break;
     case 2: s[ALLOWED] = (uint8_t)between(2, 255); break;
     case 3: s[FAILED_CODE] = (uint8_t)between(16, 255); break;
     case 4: s[ABORT_CODE] = (uint8_t)between(16, 255); break;
-    case 5: s[SELECTION] = (uint8_t)(chance(50) ? 128 : between(128, 255)); break;
-    case 6: s[SEQUENCE] = (uint8_t)(chance(50) ? 128 : between(128, 255)); break;
+    case 5: s[SELECTION] = (uint8_t)(chance(50) ? count : between(count, 255)); break;
+    case 6: s[SEQUENCE] = (uint8_t)(chance(50) ? count : between(count, 255)); break;
     case 7: s[PLACE] = (uint8_t)(chance(50) ? 128 : between(128, 255)); break;
     case 8: s[LINE_LIST] = (uint8_t)(chance(50) ? 48 : between(48, 255)); break;
     case 9: word_at(s + MIRROR, chance(50) ? END_STOP + 1 : between(END_STOP, 65535)); break;
@@ -558,7 +611,7 @@ static unsigned some_address(void)
     if (chance(40))
         return borders[any(5)] + any(6) - 3;
     if (chance(50))
-        return 0x070000 + ENTRY * any(SEQUENCES + 2);
+        return 0x070000 + taste.format->entry * any(taste.format->count + 2);
     return chance(80) ? 0x070000 + any(0x5F00) : any(0x1000000);
 }
 
@@ -582,26 +635,37 @@ static size_t dump_packet(uint8_t *p)
 
 static size_t uplink_packet(uint8_t *p)
 {
-    uint8_t entry[LIST_ENTRY];
+    uint8_t entry[LARGEST_ENTRY];
     unsigned address, count;
 
     p[0] = 0xE7;
-    noise_at(p + 5, 128);
-    if (chance(60)) {
+    noise_at(p + 5, UPLINK);
+    if (rest.count > 0) {
+        address = rest.address;
+        count = rest.count;
+        memcpy(p + 5, rest.bytes, count);
+        rest.count = 0;
+    } else if (chance(60)) {
         unsigned own = any(taste.sequences);
-        address = 0x070000 + ENTRY * own;
+        address = 0x070000 + taste.format->entry * own;
         count = (unsigned)make_sequence(entry, own, 3);
+        if (count > UPLINK) {
+            rest.address = address + UPLINK;
+            rest.count = count - UPLINK;
+            memcpy(rest.bytes, entry + UPLINK, rest.count);
+            count = UPLINK;
+        }
         memcpy(p + 5, entry, count);
     } else if (chance(50)) {
         address = 0x074000 + LIST_ENTRY * any(taste.lists);
         do
             count = (unsigned)make_line_list(entry, 3);
-        while (count > 128);
+        while (count > UPLINK);
         memcpy(p + 5, entry, count);
     } else {
         address = some_address();
-        count = some_count(address, 128);
-        count = count <= 128 ? count : 128;
+        count = some_count(address, UPLINK);
+        count = count <= UPLINK ? count : UPLINK;
     }
     put_address(p + 1, address);
     p[4] = (uint8_t)count;
@@ -621,7 +685,7 @@ static size_t good_packet(uint8_t *p)
     case 3: return packet_2(p, 0x20, any(256)) - any(2);
     case 4: case 5: case 6: return packet_2(p, 0x21, some_mode());
     case 7: p[0] = 0x23; return 1;
-    case 8: case 9: return packet_2(p, 0x83, chance(80) ? any(130) : any(256));
+    case 8: case 9: return packet_2(p, 0x83, any(chance(80) ? taste.format->count + 2 : 256));
     default: return uplink_packet(p);
     }
 }
@@ -666,6 +730,8 @@ size_t make_turn(const uint8_t *state, uint8_t *p, unsigned *steps)
         *steps = chance(90) ? between(1, 12) : between(1, 300);
         return 0;
     }
+    if (!state[RUNNING] && rest.count > 0)
+        return uplink_packet(p);
     if (!state[ALLOWED])
         return packet_2(p, 0x20, 0) - 1;
     switch (state[MODE]) {

@@ -1,7 +1,8 @@
 /*
  * Random tables, states and packets for the driver and the desk scripts. Most are meaningful:
  * sequences with rasters, delays, loops and calls that run to their end; the rest are damaged in
- * small ways or are plain noise. Everything follows from the seed.
+ * small ways or are plain noise. Everything follows from the seed, and is for one kind of tables: 0, 128
+ * sequences in 128 bytes each, or 1, the old one, 64 in 256.
  */
 #ifndef MAKE_H
 #define MAKE_H
@@ -20,18 +21,24 @@ uint32_t any(uint32_t n);
 /* True in so many cases of a hundred. */
 bool chance(unsigned percent);
 
-/* Chooses how sequences call one another and how many of each table's entries are in use. */
-void make_taste(unsigned sequences, unsigned lists);
+/* The entries of a kind's sequence table, and the bytes of one. */
+unsigned make_count(uint32_t kind);
+unsigned make_entry(uint32_t kind);
+
+/* Chooses how sequences call one another. What is made from here on is for this kind, and for tables that
+ * have so many of their entries in use. */
+void make_taste(uint32_t kind, unsigned sequences, unsigned lists);
 
 /* Both tables whole, to a taste of their own. */
-void make_tables(uint8_t *seqs, uint8_t *lists);
+void make_tables(uint32_t kind, uint8_t *seqs, uint8_t *lists);
 
-/* A ring of full sequences, 0 to n - 1, each 128 bytes with four rasters, 2 repeats of 2 loops of an
- * exposure each, and delays; and line list 0, full with 25 windows. All rasters have these science flags,
- * and the last window alone has the marks for them. Nothing in it is random. */
-void make_ring(uint8_t *seqs, uint8_t *lists, unsigned n, unsigned flags);
+/* A ring of full sequences, 0 to n - 1, each 128 bytes with four rasters, or of the old kind 255 bytes with
+ * eight: 2 repeats of 2 loops of an exposure each, and delays; and line list 0, full with 25 windows. All
+ * rasters have these science flags, and the last window alone has the marks for them. Nothing in it is
+ * random. */
+void make_ring(uint32_t kind, uint8_t *seqs, uint8_t *lists, unsigned n, unsigned flags);
 
-/* One line list in an entry of 164 bytes, one sequence in an entry of 128; both return its length. */
+/* One line list in an entry of 164 bytes, one sequence in an entry of its kind; both return its length. */
 size_t make_line_list(uint8_t *list, unsigned damage);
 size_t make_sequence(uint8_t *text, unsigned own, unsigned damage);
 

@@ -38,11 +38,18 @@ enum {
     SEQUENCES_END = SEQUENCES_AT + PLAIN_SEQUENCES,
     LINE_LISTS_AT = SEQUENCES_END,
     LINE_LISTS_END = LINE_LISTS_AT + PLAIN_LINE_LISTS,
-    ENTRY = 128,
-    LAST_SEQUENCE = 127,
+    MOST_SEQUENCES = 128,
     LINE_LIST_ENTRY = 164,
     LAST_LINE_LIST = 47
 };
+
+/* How a kind divides the sequence table. */
+struct format {
+    unsigned count; /* entries */
+    unsigned entry; /* bytes of one, which bound its length byte and places too; no byte reaches 256 */
+};
+
+static const struct format formats[] = {[PLAIN_NEW] = {128, 128}, [PLAIN_OLD] = {64, 256}};
 
 /* Packets. */
 enum {
@@ -160,14 +167,29 @@ static uint8_t xor_of(const uint8_t *p, unsigned length)
     return last;
 }
 
-/* ---- The state ---- */
+/* ---- The kind ---- */
 
-static bool none_or_up_to(uint8_t value, uint8_t last)
+/* Its format, or NULL. */
+static const struct format *format_of(uint32_t kind)
 {
-    return value == NONE || value <= last;
+    return kind <= PLAIN_OLD ? &formats[kind] : NULL;
 }
 
-static bool in_range(const uint8_t *s)
+static const uint8_t *sequence_of(const struct format *format, const uint8_t *seqs, unsigned number)
+{
+    return seqs + format->entry * number;
+}
+
+/* ---- The state ---- */
+
+/* None, 255, goes round to 0. */
+static bool none_or_below(uint8_t value, unsigned count)
+{
+    return (uint8_t)(value + 1) <= count;
+}
+
+/* Every packet and step asks this first. */
+static inline bool in_range(const struct format *format, const uint8_t *s)
 {
     if (s[MODE] < STANDBY || s[MODE] > AUTO)
         return false;
@@ -175,9 +197,9 @@ static bool in_range(const uint8_t *s)
         return false;
     if (s[FAILED_CODE] > 15 || s[ABORT_CODE] > 15)
         return false;
-    if (!none_or_up_to(s[SELECTION], LAST_SEQUENCE) || !none_or_up_to(s[SEQUENCE], LAST_SEQUENCE))
+    if (!none_or_below(s[SELECTION], format->count) || !none_or_below(s[SEQUENCE], format->count))
         return false;
-    if (s[PLACE] >= ENTRY || !none_or_up_to(s[RASTER], ENTRY - 1))
+    if (s[PLACE] >= format->entry || !none_or_below(s[RASTER], format->entry))
         return false;
     if (s[LINE_LIST] > LAST_LINE_LIST || word(s + MIRROR) > END_STOP || s[SET] > MOST_EXPOSURES)
         return false;
@@ -247,11 +269,11 @@ static unsigned change_mode(uint8_t *s, uint8_t mode)
     return OBEYED;
 }
 
-static unsigned select_sequence(uint8_t *s, uint8_t number)
+static unsigned select_sequence(const struct format *format, uint8_t *s, uint8_t number)
 {
     if (s[MODE] != MANUAL)
         return NOT_NOW;
-    if (number > LAST_SEQUENCE)
+    if (number >= format->count)
         return BAD_RANGE;
     s[SELECTION] = number;
     s[SEQUENCE] = number;
@@ -266,8 +288,8 @@ static bool reserved(uint8_t number)
 }
 
 /* Obeys a packet other than a good status request; answers its code. A dump sets *answer. */
-static unsigned obey(uint8_t *s, uint8_t *seqs, uint8_t *lists, uint8_t *out, const uint8_t *p, size_t length,
-                     unsigned *answer)
+static unsigned obey(const struct format *format, uint8_t *s, uint8_t *seqs, uint8_t *lists, uint8_t *out,
+                     const uint8_t *p, size_t length, unsigned *answer)
 {
     uint8_t *part;
     unsigned count;
@@ -305,7 +327,7 @@ static unsigned obey(uint8_t *s, uint8_t *seqs, uint8_t *lists, uint8_t *out, co
         s[ABORT_CODE] = 0;
         return OBEYED;
     case SELECT:
-        return length == 2 ? select_sequence(s, p[1]) : BAD_LENGTH;
+        return length == 2 ? select_sequence(format, s, p[1]) : BAD_LENGTH;
     case UPLINK:
         if (length < 5 || length != 5u + p[4])
             return BAD_LENGTH;
@@ -348,21 +370,22 @@ static unsigned answer_status(uint8_t *s, uint8_t *out, uint32_t time)
     return STATUS_HEAD + STATUS_BLOCK;
 }
 
-uint32_t plain_packet(uint8_t *state, size_t state_len, uint8_t *seqs, size_t seqs_len, uint8_t *lists,
-                      size_t lists_len, uint8_t *out, size_t out_len, uint32_t time, const uint8_t *packet,
-                      size_t packet_len)
+uint32_t plain_packet(uint32_t kind, uint8_t *state, size_t state_len, uint8_t *seqs, size_t seqs_len,
+                      uint8_t *lists, size_t lists_len, uint8_t *out, size_t out_len, uint32_t time,
+                      const uint8_t *packet, size_t packet_len)
 {
+    const struct format *format = format_of(kind);
     unsigned code, answer = 0;
 
-    if (state_len != PLAIN_STATE || seqs_len != PLAIN_SEQUENCES || lists_len != PLAIN_LINE_LISTS ||
-        out_len < PLAIN_OUTPUT)
+    if (format == NULL || state_len != PLAIN_STATE || seqs_len != PLAIN_SEQUENCES ||
+        lists_len != PLAIN_LINE_LISTS || out_len < PLAIN_OUTPUT)
         return BAD_SIZES;
-    if (!in_range(state))
+    if (!in_range(format, state))
         return BAD_STATE;
     if (packet_len == 1 && packet[0] == GET_STATUS)
         return answer_status(state, out, time) << 8;
 
-    code = obey(state, seqs, lists, out, packet, packet_len, &answer);
+    code = obey(format, state, seqs, lists, out, packet, packet_len, &answer);
     add_one(state + RECEIVED);
     for (unsigned i = 0; i < 3; i++)
         state[LOG + i] = i < packet_len ? packet[i] : 0;
@@ -377,13 +400,18 @@ uint32_t plain_packet(uint8_t *state, size_t state_len, uint8_t *seqs, size_t se
 
 /* ---- Sequences and line lists ---- */
 
+static bool length_good(const struct format *format, unsigned length)
+{
+    return length >= SHORTEST_SEQUENCE && length <= format->entry;
+}
+
 /* The size of the command that stands whole before the checksum at this place, or 0. */
-static unsigned size_at(const uint8_t *text, unsigned place)
+static unsigned size_at(const struct format *format, const uint8_t *text, unsigned place)
 {
     static const uint8_t sizes[] = {RUN_RASTER_SIZE, EXPOSE_SIZE, LOOP_BACK_SIZE, 2, 1, DELAY_SIZE};
     unsigned length = text[0], size;
 
-    if (length < SHORTEST_SEQUENCE || length > ENTRY || place < FIRST_COMMAND || place + 1 >= length)
+    if (!length_good(format, length) || place < FIRST_COMMAND || place + 1 >= length)
         return 0;
     if (text[place] < RUN_RASTER || text[place] > DELAY)
         return 0;
@@ -434,11 +462,11 @@ static bool flags_good(unsigned flags)
 }
 
 /* The entering of a sequence: its code, or 0; a fault sets *place. */
-static unsigned entry_fault(const uint8_t *text, unsigned *place)
+static unsigned entry_fault(const struct format *format, const uint8_t *text, unsigned *place)
 {
     unsigned length = text[0];
     *place = 0;
-    if (length < SHORTEST_SEQUENCE || length > ENTRY || xor_of(text, length) != 0)
+    if (!length_good(format, length) || xor_of(text, length) != 0)
         return BAD_SEQUENCE;
     *place = SEQUENCE_REPEATS;
     return text[SEQUENCE_REPEATS] == 0 ? NO_REPEATS : 0;
@@ -476,12 +504,12 @@ static bool set_full(const uint8_t *raster, unsigned made)
 
 /* Whether a loop back's target is a command's start after the run raster, and at or before the
  * first exposure that follows it in the text ahead of the loop back. */
-static bool target_good(const uint8_t *text, unsigned raster, unsigned loop_back)
+static bool target_good(const struct format *format, const uint8_t *text, unsigned raster, unsigned loop_back)
 {
     unsigned target = text[loop_back + 1], size;
     bool seen = false;
     for (unsigned at = FIRST_COMMAND; at < loop_back; at += size) {
-        size = size_at(text, at);
+        size = size_at(format, text, at);
         if (size == 0)
             return false;
         if (at <= raster)
@@ -509,17 +537,17 @@ static uint64_t abort_run(uint8_t *s, unsigned code, unsigned place)
 }
 
 /* The run raster of the open raster, or NULL where none is open or none stands at its place. */
-static const uint8_t *open_raster(const uint8_t *s, const uint8_t *text)
+static const uint8_t *open_raster(const struct format *format, const uint8_t *s, const uint8_t *text)
 {
     unsigned place = s[RASTER];
-    if (place == NONE || size_at(text, place) == 0 || text[place] != RUN_RASTER)
+    if (place == NONE || size_at(format, text, place) == 0 || text[place] != RUN_RASTER)
         return NULL;
     return text + place;
 }
 
-static uint64_t enter(uint8_t *s, const uint8_t *text)
+static uint64_t enter(const struct format *format, uint8_t *s, const uint8_t *text)
 {
-    unsigned place, code = entry_fault(text, &place);
+    unsigned place, code = entry_fault(format, text, &place);
     if (code != 0)
         return abort_run(s, code, place);
     s[ENTERING] = 0;
@@ -550,10 +578,10 @@ static uint64_t run_raster(uint8_t *s, const uint8_t *text, const uint8_t *lists
     return event(PLAIN_RASTER, raster_id(raster), raster_initial(raster), 0);
 }
 
-static uint64_t expose(uint8_t *s, const uint8_t *text)
+static uint64_t expose(const struct format *format, uint8_t *s, const uint8_t *text)
 {
     unsigned place = s[PLACE], mirror = word(s + MIRROR);
-    const uint8_t *raster = open_raster(s, text);
+    const uint8_t *raster = open_raster(format, s, text);
 
     if (raster == NULL || word(text + place + 1) == 0 || set_full(raster, s[SET]))
         return abort_run(s, BAD_COMMAND, place);
@@ -569,12 +597,12 @@ static uint64_t expose(uint8_t *s, const uint8_t *text)
     return event(PLAIN_EXP, word(s + EXPOSURES), mirror, 0);
 }
 
-static uint64_t loop_back(uint8_t *s, const uint8_t *text)
+static uint64_t loop_back(const struct format *format, uint8_t *s, const uint8_t *text)
 {
     unsigned place = s[PLACE], passes = word(s + PASSES), repeats = word(s + REPEATS);
-    const uint8_t *raster = open_raster(s, text);
+    const uint8_t *raster = open_raster(format, s, text);
 
-    if (raster == NULL || !set_full(raster, s[SET]) || !target_good(text, s[RASTER], place))
+    if (raster == NULL || !set_full(raster, s[SET]) || !target_good(format, text, s[RASTER], place))
         return abort_run(s, BAD_COMMAND, place);
     if (passes > 1) {
         s[PLACE] = text[place + 1];
@@ -593,7 +621,7 @@ static uint64_t loop_back(uint8_t *s, const uint8_t *text)
 }
 
 /* Call and terminate. */
-static uint64_t close_sequence(uint8_t *s, const uint8_t *text, unsigned size)
+static uint64_t close_sequence(const struct format *format, uint8_t *s, const uint8_t *text, unsigned size)
 {
     unsigned place = s[PLACE];
 
@@ -608,7 +636,7 @@ static uint64_t close_sequence(uint8_t *s, const uint8_t *text, unsigned size)
         s[RUNNING] = 0;
         return event(PLAIN_END, 0, 0, 0);
     }
-    if (text[place + 1] > LAST_SEQUENCE)
+    if (text[place + 1] >= format->count)
         return abort_run(s, BAD_CALL, place);
     s[SEQUENCE] = text[place + 1];
     s[PLACE] = 0;
@@ -616,39 +644,41 @@ static uint64_t close_sequence(uint8_t *s, const uint8_t *text, unsigned size)
     return event(PLAIN_CALL, s[SEQUENCE], 0, 0);
 }
 
-uint64_t plain_step(uint8_t *state, size_t state_len, const uint8_t *seqs, size_t seqs_len, const uint8_t *lists,
-                    size_t lists_len)
+uint64_t plain_step(uint32_t kind, uint8_t *state, size_t state_len, const uint8_t *seqs, size_t seqs_len,
+                    const uint8_t *lists, size_t lists_len)
 {
+    const struct format *format = format_of(kind);
     const uint8_t *text;
     unsigned place, size;
 
-    if (state_len != PLAIN_STATE || seqs_len != PLAIN_SEQUENCES || lists_len != PLAIN_LINE_LISTS)
+    if (format == NULL || state_len != PLAIN_STATE || seqs_len != PLAIN_SEQUENCES ||
+        lists_len != PLAIN_LINE_LISTS)
         return event(PLAIN_REFUSED, BAD_SIZES, 0, 0);
-    if (!in_range(state))
+    if (!in_range(format, state))
         return event(PLAIN_REFUSED, BAD_STATE, 0, 0);
     if (!state[RUNNING])
         return event(PLAIN_IDLE, 0, 0, 0);
 
-    text = seqs + ENTRY * state[SEQUENCE];
+    text = sequence_of(format, seqs, state[SEQUENCE]);
     if (state[ENTERING])
-        return enter(state, text);
+        return enter(format, state, text);
 
     place = state[PLACE];
-    size = size_at(text, place);
+    size = size_at(format, text, place);
     if (size == 0)
         return abort_run(state, BAD_COMMAND, place);
     switch (text[place]) {
     case RUN_RASTER:
         return run_raster(state, text, lists);
     case EXPOSE:
-        return expose(state, text);
+        return expose(format, state, text);
     case LOOP_BACK:
-        return loop_back(state, text);
+        return loop_back(format, state, text);
     case DELAY:
         state[PLACE] = (uint8_t)(place + DELAY_SIZE);
         return event(PLAIN_WAIT, word(text + place + 1), 0, 0);
     default:
-        return close_sequence(state, text, size);
+        return close_sequence(format, state, text, size);
     }
 }
 
@@ -666,11 +696,12 @@ struct finding {
 };
 
 /* Steps of one raster with all its passes and repeats, from its run raster to its loop back. */
-static uint64_t raster_steps(const uint8_t *text, unsigned raster, unsigned loop_back)
+static uint64_t raster_steps(const struct format *format, const uint8_t *text, unsigned raster,
+                             unsigned loop_back)
 {
     const uint8_t *r = text + raster;
     unsigned target = text[loop_back + 1], before = 0, looped = 0;
-    for (unsigned at = raster + RUN_RASTER_SIZE; at <= loop_back; at += size_at(text, at)) {
+    for (unsigned at = raster + RUN_RASTER_SIZE; at <= loop_back; at += size_at(format, text, at)) {
         if (at < target)
             before++;
         else
@@ -694,19 +725,20 @@ static struct plain_reason list_reason(const uint8_t *list)
 }
 
 /* Applies the rules to one sequence in text order: its first fault's code, or 0. */
-static unsigned check_sequence(const uint8_t *text, const uint8_t *lists, struct finding *f)
+static unsigned check_sequence(const struct format *format, const uint8_t *text, const uint8_t *lists,
+                               struct finding *f)
 {
     const uint8_t *raster = NULL;
     unsigned place, size, set = 0;
     uint64_t steps = 0, exposures = 0;
-    unsigned code = entry_fault(text, &f->place);
+    unsigned code = entry_fault(format, text, &f->place);
 
     f->reason = (struct plain_reason){PLAIN_GOOD, 0};
     if (code != 0)
         return code;
     for (place = FIRST_COMMAND;; place += size) {
         f->place = place;
-        size = size_at(text, place);
+        size = size_at(format, text, place);
         if (size == 0)
             return BAD_COMMAND;
         switch (text[place]) {
@@ -727,9 +759,10 @@ static unsigned check_sequence(const uint8_t *text, const uint8_t *lists, struct
             set++;
             break;
         case LOOP_BACK:
-            if (raster == NULL || !set_full(raster, set) || !target_good(text, (unsigned)(raster - text), place))
+            if (raster == NULL || !set_full(raster, set) ||
+                !target_good(format, text, (unsigned)(raster - text), place))
                 return BAD_COMMAND;
-            steps += raster_steps(text, (unsigned)(raster - text), place);
+            steps += raster_steps(format, text, (unsigned)(raster - text), place);
             exposures += raster_total(raster);
             raster = NULL;
             break;
@@ -741,7 +774,7 @@ static unsigned check_sequence(const uint8_t *text, const uint8_t *lists, struct
             if (raster != NULL || place + size + 1 != text[0])
                 return BAD_COMMAND;
             f->next = text[place] == CALL ? text[place + 1] : NONE;
-            if (text[place] == CALL && f->next > LAST_SEQUENCE)
+            if (text[place] == CALL && f->next >= format->count)
                 return BAD_CALL;
             f->steps = 1 + text[SEQUENCE_REPEATS] * (steps + 1);
             f->exposures = text[SEQUENCE_REPEATS] * exposures;
@@ -771,19 +804,20 @@ static uint32_t report_pass(uint8_t *report, unsigned how, uint64_t steps, uint6
     return 0;
 }
 
-uint32_t plain_check(const uint8_t *seqs, size_t seqs_len, const uint8_t *lists, size_t lists_len, uint32_t number,
-                     uint8_t *report, size_t report_len)
+uint32_t plain_check(uint32_t kind, const uint8_t *seqs, size_t seqs_len, const uint8_t *lists, size_t lists_len,
+                     uint32_t number, uint8_t *report, size_t report_len)
 {
-    bool listed[LAST_SEQUENCE + 1] = {false};
+    const struct format *format = format_of(kind);
+    bool listed[MOST_SEQUENCES] = {false};
     uint64_t steps = 0, exposures = 0;
     unsigned count = 0, sequence = number;
 
     if (report_len != PLAIN_REPORT)
         return BAD_SIZES;
     memset(report, 0, PLAIN_REPORT);
-    if (seqs_len != PLAIN_SEQUENCES || lists_len != PLAIN_LINE_LISTS)
+    if (format == NULL || seqs_len != PLAIN_SEQUENCES || lists_len != PLAIN_LINE_LISTS)
         return report[0] = BAD_SIZES;
-    if (number > LAST_SEQUENCE)
+    if (number >= format->count)
         return report[0] = BAD_RANGE;
 
     for (;;) {
@@ -793,7 +827,7 @@ uint32_t plain_check(const uint8_t *seqs, size_t seqs_len, const uint8_t *lists,
         listed[sequence] = true;
         report[CHAIN + count++] = (uint8_t)sequence;
         put_word(report + 6, count);
-        code = check_sequence(seqs + ENTRY * sequence, lists, &found);
+        code = check_sequence(format, sequence_of(format, seqs, sequence), lists, &found);
         if (code != 0)
             return report_fault(report, code, sequence, &found);
         steps += found.steps;

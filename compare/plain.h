@@ -1,8 +1,8 @@
 /*
- * The control unit in plain C, written from document 01 alone, P4's reasons and P1's marks added: it
- * shares no text with the proved library, and stands beside it to be compared. The four calls, the lent
- * bytes and the answers are those of keel.h, under other names; the test of a line list and its marks are
- * for the desk's table check.
+ * The control unit in plain C, written from document 01 alone, P4's reasons, P1's marks and P10's kinds
+ * added: it shares no text with the proved library, and stands beside it to be compared. The four calls,
+ * the lent bytes and the answers are those of keel.h, under other names; the test of a line list and its
+ * marks are for the desk's table check.
  */
 #ifndef PLAIN_H
 #define PLAIN_H
@@ -18,6 +18,10 @@ enum {
     PLAIN_OUTPUT = 16384,
     PLAIN_REPORT = 152
 };
+
+/* The kinds of sequence table, all of one size: 128 entries of 128 bytes, or the old unit's 64 of 256.
+ * Any other number is answered as a table of wrong size. A state is not converted from kind to kind. */
+enum { PLAIN_NEW, PLAIN_OLD };
 
 /* What a step did: the low 8 bits of its answer. Its values stand at bits 16, 32 and 48. */
 enum {
@@ -54,7 +58,8 @@ struct plain_reason {
 uint32_t plain_power_on(uint8_t *state, size_t state_len);
 
 /* Obeys or refuses one packet. Answers the code + 256 x the length of the answer in out. */
-uint32_t plain_packet(uint8_t *state, size_t state_len,
+uint32_t plain_packet(uint32_t kind,
+                      uint8_t *state, size_t state_len,
                       uint8_t *seqs, size_t seqs_len,
                       uint8_t *lists, size_t lists_len,
                       uint8_t *out, size_t out_len,
@@ -62,12 +67,14 @@ uint32_t plain_packet(uint8_t *state, size_t state_len,
                       const uint8_t *packet, size_t packet_len);
 
 /* Takes one interpreter step. */
-uint64_t plain_step(uint8_t *state, size_t state_len,
+uint64_t plain_step(uint32_t kind,
+                    uint8_t *state, size_t state_len,
                     const uint8_t *seqs, size_t seqs_len,
                     const uint8_t *lists, size_t lists_len);
 
 /* Checks a sequence and the chain that it calls. Answers the code and fills the report. */
-uint32_t plain_check(const uint8_t *seqs, size_t seqs_len,
+uint32_t plain_check(uint32_t kind,
+                     const uint8_t *seqs, size_t seqs_len,
                      const uint8_t *lists, size_t lists_len,
                      uint32_t number,
                      uint8_t *report, size_t report_len);

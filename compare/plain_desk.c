@@ -1,7 +1,7 @@
 /*
  * The desk program of document 01 over plain.h: lines from standard input, answers to standard
  * output. What is waiting to be written goes out before each read, so that a person at a terminal
- * sees every answer at once.
+ * sees every answer at once. With `old` as its first argument the tables are of the old kind.
  */
 #include "plain.h"
 
@@ -11,6 +11,7 @@
 
 enum { LONGEST_LINE = 280, LONGEST_PACKET = LONGEST_LINE / 2, MOST_STEPS = 65535 };
 
+static uint32_t kind = PLAIN_NEW;
 static uint8_t state[PLAIN_STATE];
 static uint8_t sequences[PLAIN_SEQUENCES];
 static uint8_t line_lists[PLAIN_LINE_LISTS];
@@ -82,8 +83,8 @@ static char *number(char *to, unsigned value)
 static void send_packet(const uint8_t *packet, size_t n)
 {
     uint8_t bc1 = n > 0 ? packet[0] : 0;
-    uint32_t result = plain_packet(state, sizeof state, sequences, sizeof sequences, line_lists, sizeof line_lists,
-                                   answer, sizeof answer, 0, packet, n);
+    uint32_t result = plain_packet(kind, state, sizeof state, sequences, sizeof sequences, line_lists,
+                                   sizeof line_lists, answer, sizeof answer, 0, packet, n);
     uint32_t length = result >> 8;
     char *to = room(32 + 2 * (size_t)length);
 
@@ -113,10 +114,10 @@ static void take_steps(unsigned n)
 
     while (n-- > 0) {
         uint64_t event =
-            plain_step(state, sizeof state, sequences, sizeof sequences, line_lists, sizeof line_lists);
-        unsigned kind = event & 0xFF;
-        char *to = text(room(32), shown[kind].word);
-        for (unsigned i = 0; i < shown[kind].values; i++) {
+            plain_step(kind, state, sizeof state, sequences, sizeof sequences, line_lists, sizeof line_lists);
+        unsigned what = event & 0xFF;
+        char *to = text(room(32), shown[what].word);
+        for (unsigned i = 0; i < shown[what].values; i++) {
             event >>= 16;
             to = number(to, event & 0xFFFF);
         }
@@ -178,13 +179,15 @@ static void obey_line(const uint8_t *line, size_t n)
         wrote(text(room(4), "BAD\n"));
 }
 
-int main(void)
+int main(int argc, char **argv)
 {
     static uint8_t input[65536];
     uint8_t line[LONGEST_LINE + 1]; /* a line longer than any good one keeps this many bytes */
     size_t line_len = 0;
     bool begun = false; /* a line has begun and not ended */
 
+    if (argc > 1 && strcmp(argv[1], "old") == 0)
+        kind = PLAIN_OLD;
     plain_power_on(state, sizeof state);
     for (;;) {
         ssize_t got;

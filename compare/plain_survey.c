@@ -1,10 +1,12 @@
 /*
  * The table check at the desk, over plain.h. Standard input is the two dumps put together: the
- * sequence table, then the line lists. Arguments are sequence numbers; none means all of them. The
- * argument `lists` stands for the test of all line lists.
+ * sequence table, then the line lists. With `old` as the first argument the tables are of the old kind.
+ * The other arguments are sequence numbers; none means all of them. The argument `lists` stands for the
+ * test of all line lists.
  */
 #include "plain.h"
 
+#include <stdbool.h>
 #include <stdio.h>
 #include <stdlib.h>
 #include <string.h>
@@ -12,13 +14,14 @@
 enum {
     TABLES = PLAIN_SEQUENCES + PLAIN_LINE_LISTS,
     SEQUENCES = 128,
+    OLD_SEQUENCES = 64,
     LISTS = 48,
     LIST_ENTRY = 164,
     NO_NUMBER = 65535
 };
 
 /* A number in decimal with no sign and no leading zero, at most 65535; NO_NUMBER, which the check
- * refuses like any number above 127, for other words. */
+ * refuses like any number above the last sequence's, for other words. */
 static uint32_t number_of(const char *word)
 {
     size_t n = strlen(word);
@@ -72,13 +75,13 @@ static void survey_lists(const uint8_t *lists)
     }
 }
 
-static void survey(const uint8_t *tables, const char *word)
+static void survey(uint32_t kind, const uint8_t *tables, const char *word)
 {
     uint8_t report[PLAIN_REPORT];
     unsigned count;
 
-    plain_check(tables, PLAIN_SEQUENCES, tables + PLAIN_SEQUENCES, PLAIN_LINE_LISTS, number_of(word), report,
-                sizeof report);
+    plain_check(kind, tables, PLAIN_SEQUENCES, tables + PLAIN_SEQUENCES, PLAIN_LINE_LISTS, number_of(word),
+                report, sizeof report);
     switch (report[1]) {
     case PLAIN_ENDS:
         printf("PASS %s ENDS %llu %llu", word, total(report + 8), total(report + 16));
@@ -101,21 +104,24 @@ static void survey(const uint8_t *tables, const char *word)
 int main(int argc, char **argv)
 {
     static uint8_t tables[TABLES + 1]; /* one more, to see an input that is too long */
+    bool old = argc > 1 && strcmp(argv[1], "old") == 0;
+    uint32_t kind = old ? PLAIN_OLD : PLAIN_NEW;
+    int first = old ? 2 : 1;
 
     if (fread(tables, 1, sizeof tables, stdin) != TABLES) {
         puts("REFUSED TABLES 16");
-    } else if (argc > 1) {
-        for (int i = 1; i < argc; i++) {
+    } else if (argc > first) {
+        for (int i = first; i < argc; i++) {
             if (strcmp(argv[i], "lists") == 0)
                 survey_lists(tables + PLAIN_SEQUENCES);
             else
-                survey(tables, argv[i]);
+                survey(kind, tables, argv[i]);
         }
     } else {
-        for (int i = 0; i < SEQUENCES; i++) {
+        for (int i = 0; i < (old ? OLD_SEQUENCES : SEQUENCES); i++) {
             char word[12];
             snprintf(word, sizeof word, "%d", i);
-            survey(tables, word);
+            survey(kind, tables, word);
         }
     }
     return 0;

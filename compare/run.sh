@@ -5,8 +5,8 @@
 #   self     the driver and the benchmark with the plain library on both sides, then with a wrong
 #            rule planted in one of them, which the driver must find
 #   library  the driver with the proved library
-#   desks    the two desk programs on two scripts: equal output
-#   surveys  the two table checks at the desk, and their tests of the line lists: equal output
+#   desks    the two desk programs on scripts for either kind of tables: equal output
+#   surveys  the two table checks at the desk on tables of either kind, and their tests of the line lists: equal output
 #   bench    one table of times, proved and plain side by side; its last line names the rows over their bar
 # By name alone:
 #   baseline         the same as bench, and its rows are kept in compare/baseline.txt
@@ -129,11 +129,12 @@ build_library() {
     build_over "$library" include "$archive"
 }
 
-# The proved programs, and what they are run on: a script of 100,000 lines; 2.6 million steps of the two sequences that call
-# each other in demo/; tables.
+# The proved programs, and what they are run on: a script of 100,000 lines for each kind; 2.6 million steps of the two sequences
+# that call each other in demo/; tables.
 build_programs() {
     rt check desk tablecheck
     run "$build/made" script 1 "$lines" >"$build/lines.in"
+    run "$build/made" script 1 "$lines" old >"$build/old.in"
     { sed '/^01$/,$d' demo/two-that-call-each-other.in; printf 'STEP 65535\n%.0s' {1..40}; } >"$build/steps.in"
     run "$build/made" tables 1 >"$build/tables.bin"
 }
@@ -203,7 +204,7 @@ stage_counts() {
     local row name things side one
     [ -n "$emulated" ] || { echo "run.sh: counts wants the emulator" >&2; return 2; }
     build_library
-    for row in {0..18}; do
+    for row in {0..20}; do
         IFS=$'\t' read -r name things < <(run "$build/library/bench" "$row" k 0)
         one="$name"
         for side in k p; do
@@ -214,14 +215,22 @@ stage_counts() {
         { printf "%-36s %10d %10d %7.2f\n", $1, $2, $3, $2 / $3 }'
 }
 
+# The two desks on one script, with these words as arguments.
+same_desk() { # SCRIPT WORD..
+    run target/bin/desk "${@:2}" <"$build/$1.in" >"$build/desk.out"
+    run "$build/plain_desk" "${@:2}" <"$build/$1.in" | cmp - "$build/desk.out"
+    echo "desks${2:+, ${*:2}}: equal output, $(wc -l <"$build/$1.in") lines in, $(wc -l <"$build/desk.out") out"
+}
+
+# Each script also with the other kind, and `old` where it is a word like any other.
 stage_desks() {
-    local script
     build_programs
-    for script in lines steps; do
-        run target/bin/desk <"$build/$script.in" >"$build/desk.out"
-        run "$build/plain_desk" <"$build/$script.in" | cmp - "$build/desk.out"
-        echo "desks: equal output, $(wc -l <"$build/$script.in") lines in, $(wc -l <"$build/desk.out") out"
-    done
+    same_desk lines
+    same_desk steps
+    same_desk old old
+    same_desk old
+    same_desk lines old lists
+    same_desk lines olds old
 }
 
 # The two table checks on one input, with these words as arguments.
@@ -230,23 +239,37 @@ same_survey() { # INPUT WORD..
     run "$build/plain_survey" "${@:2}" <"$1" | cmp - "$build/survey.out"
 }
 
+# Each table also as one of the other kind, and `old` where it is a word like any other.
 stage_surveys() {
-    local tables=$build/survey.bin seed
+    local tables=$build/survey.bin old=$build/survey-old.bin seed
     rt check tablecheck
     for seed in 1 2 3 4 5 6 7 8; do
         run "$build/made" tables "$seed" >"$tables"
         same_survey "$tables"
         same_survey "$tables" lists
+        same_survey "$tables" old
+        run "$build/made" tables "$seed" old >"$old"
+        same_survey "$old" old
+        same_survey "$old" old lists
+        same_survey "$old"
     done
     same_survey "$tables" 127 0 5 5 128 65535 65536 4294967296 00 01 -1 +1 1x x 12.
     same_survey "$tables" 3 lists 5 list listss Lists lists
+    same_survey "$old" old 63 64 0 5 5 65 127 128 255 256 65535 65536 00 -1 x lists 12.
+    same_survey "$old" old old 5
+    same_survey "$old" olds
+    same_survey "$tables" lists old
+    same_survey "$tables" 5 old
     head -c 24255 "$tables" >"$build/short.bin"
     same_survey "$build/short.bin"
+    same_survey "$build/short.bin" old
     cat "$tables" "$build/short.bin" >"$build/long.bin"
     same_survey "$build/long.bin" 0
+    same_survey "$build/long.bin" old 0
     same_survey /dev/null
     same_survey /dev/null lists
-    echo "surveys: equal output on 8 tables, their line lists, odd words and tables of wrong size"
+    same_survey /dev/null old
+    echo "surveys: equal output on 8 tables of each kind, their line lists, odd words and tables of wrong size"
 }
 
 # Runs PROGRAM on INPUT and counts it. WANTED is document 01's: the reason, which P4 puts at the end of a fault with code 7, is cut off

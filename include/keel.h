@@ -11,8 +11,12 @@
    18 line list; 19-20 exposures; 21-22 mirror; 23 running (0 or 1); 24 entering (0 or 1); 25 open raster's place, 255 none;
    26 exposures in the set; 27-28 passes left; 29-30 raster repeats left; 31 rounds left.
 
-   A state not of 32 bytes, tables not of 16,384 and 7,872 bytes or an output below 16,384 bytes: code 16. A state out of range, or a
-   flag byte above 1: code 17. Both leave every lent byte as it was. */
+   kind, of the sequence table: KEEL_FLIGHT, 128 entries of 128 bytes, or KEEL_BENCH, the old unit's 64 of 256. It is given with each call
+   and kept nowhere: one run, and the check before it, are under one kind.
+
+   A state not of 32 bytes, tables not of 16,384 and 7,872 bytes, an output below 16,384 bytes or another kind: code 16. A state out of
+   range, or a flag byte above 1: code 17. Both leave every lent byte as it was, but that the report of a check says 16 itself. A
+   sequence, selected or in the status, is out of range above the kind's last, 127 or 63; a place above 127, on the bench none. */
 #ifndef KEEL_H
 #define KEEL_H
 
@@ -21,6 +25,9 @@
 #ifdef __cplusplus
 extern "C" {
 #endif
+
+#define KEEL_FLIGHT 0
+#define KEEL_BENCH 1
 
 #define KEEL_STATE_SIZE 32
 #define KEEL_SEQUENCE_TABLE 16384
@@ -32,19 +39,21 @@ extern "C" {
 uint32_t keel_power_on(uint8_t *state, uintptr_t state_len);
 
 /* One packet. Answers its code + 256 x the length of what was written to the output. */
-uint32_t keel_packet(uint8_t *state, uintptr_t state_len, uint8_t *seqs, uintptr_t seqs_len, uint8_t *lists, uintptr_t lists_len,
-                     uint8_t *out, uintptr_t out_len, uint32_t time, const uint8_t *packet, uintptr_t packet_len);
+uint32_t keel_packet(uint32_t kind, uint8_t *state, uintptr_t state_len, uint8_t *seqs, uintptr_t seqs_len, uint8_t *lists,
+                     uintptr_t lists_len, uint8_t *out, uintptr_t out_len, uint32_t time, const uint8_t *packet,
+                     uintptr_t packet_len);
 
 /* One step. Answers the event in the low 8 bits (0 IDLE, 1 ENTER s, 2 RASTER id pos, 3 EXP no pos, 4 LOOP place, 5 NEXT, 6 DONE,
    7 WAIT t, 8 CALL s, 9 END, 10 ABORT code seq place, 11 refused code), its values in 16 bits each at bits 16, 32 and 48. */
-uint64_t keel_step(uint8_t *state, uintptr_t state_len, const uint8_t *seqs, uintptr_t seqs_len, const uint8_t *lists, uintptr_t lists_len);
+uint64_t keel_step(uint32_t kind, uint8_t *state, uintptr_t state_len, const uint8_t *seqs, uintptr_t seqs_len, const uint8_t *lists,
+                   uintptr_t lists_len);
 
 /* The table check of a sequence. Answers its code and fills a report of 152 bytes (another size: 16, untouched): 0 code; 1: 0 nothing
    listed, 1 ends, 2 returns, 3 fault; 2 the fault's sequence; 3 its place; 4 why, of a fault with code 7: 1 the line list's window count,
    2 its length, 3 its checksum, 4 a mark that a flag of the raster needs and no window of the list has (0: any other fault, or none); 5 the
    checksum expected, 0 unless 4 is 3; 6-7 how many are listed; 8-15 steps; 16-23 exposures, high byte first; 24-151 the chain, zeros
    after it. */
-uint32_t keel_check(const uint8_t *seqs, uintptr_t seqs_len, const uint8_t *lists, uintptr_t lists_len, uint32_t number,
+uint32_t keel_check(uint32_t kind, const uint8_t *seqs, uintptr_t seqs_len, const uint8_t *lists, uintptr_t lists_len, uint32_t number,
                     uint8_t *report, uintptr_t report_len);
 
 #ifdef __cplusplus

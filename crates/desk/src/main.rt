@@ -1,11 +1,10 @@
-// The desk: packets and steps from standard input, answers and events to standard output. Text waits to be written until a piece of
-// input is worked off, or until it has no room left; so a person sees each answer before the next read.
+// The desk: packets and steps from standard input, answers and events to standard output; `desk old` for a unit of the old kind. Text waits
+// to be written until a piece of input is worked off, or until it has no room left; so a person sees each answer before the next read.
 ghost use Prim.Native.Nat.{_<_, _≤_};
 ghost use lib.ListN.{length};
 use libc::STDIN_FILENO;
 use libc::STDOUT_FILENO;
 use line::Line;
-use memory::Format;
 use unit::Outcome;
 use unit::Unit;
 
@@ -18,8 +17,9 @@ const EVENT: usize = 40;
 // More bytes than a packet's line or a STEP has.
 const TOO_LONG: usize = 512;
 
-// The unit, and the bytes of text that wait.
+// The kind of the tables, the unit, and the bytes of text that wait.
 struct Desk {
+    kind: u32,
     unit: Unit,
     at: usize,
 }
@@ -66,19 +66,18 @@ fn take_packet(
     text: &mut [u8],
 ) -> Desk {
     let packet = octets::part(typed, 0, n);
-    let answer = desk.unit
-        .packet(Format::flight(), seqs, lists, out, 0, packet);
+    let answer = desk.unit.packet(desk.kind, seqs, lists, out, 0, packet);
     let bc1 = octets::byte(packet, 0);
     let from = room(text, desk.at, ANSWER);
     let after = line::put_answer(text, from, bc1, answer.code);
     let at = put_reply(text, after, bc1, octets::part(out, 0, answer.size));
     let unit = answer.unit;
-    Desk { unit, at }
+    Desk { unit, at, ..desk }
 }
 
 // One step, and its event shown. The desk's tables and state are never refused.
 fn take_step(desk: Desk, seqs: &[u8], lists: &[u8], text: &mut [u8]) -> Desk {
-    let step = desk.unit.step(Format::flight(), seqs, lists);
+    let step = desk.unit.step(desk.kind, seqs, lists);
     let unit = step.unit;
     let outcome = step.outcome;
     let from = room(text, desk.at, EVENT);
@@ -86,7 +85,7 @@ fn take_step(desk: Desk, seqs: &[u8], lists: &[u8], text: &mut [u8]) -> Desk {
         Outcome::Denied(_) => from,
         Outcome::Saw(event) => line::put_event(text, from, event, unit.watch.exposures),
     };
-    Desk { unit, at }
+    Desk { unit, at, ..desk }
 }
 
 // So many steps.
@@ -102,9 +101,8 @@ fn take_steps(start: Desk, seqs: &[u8], lists: &[u8], n: u16, text: &mut [u8]) -
 
 // A line that is no packet and no STEP.
 fn take_bad(desk: Desk, text: &mut [u8]) -> Desk {
-    let unit = desk.unit;
     let at = line::put_bad(text, room(text, desk.at, EVENT));
-    Desk { unit, at }
+    Desk { at, ..desk }
 }
 
 // A line: a packet, steps, or BAD, which reaches the unit in no way.
@@ -218,9 +216,16 @@ fn turns_left(more: bool, turns: u64) -> u64
 }
 
 // Every piece of input. A proved loop has to end, so the turns are counted down from a number that no input uses up.
-fn run(seqs: &mut [u8], lists: &mut [u8], out: &mut [u8], piece: &mut [u8], text: &mut [u8]) {
+fn run(
+    kind: u32,
+    seqs: &mut [u8],
+    lists: &mut [u8],
+    out: &mut [u8],
+    piece: &mut [u8],
+    text: &mut [u8],
+) {
     let unit = Unit::power_on();
-    let mut desk = Desk { unit, at: 0 };
+    let mut desk = Desk { kind, unit, at: 0 };
     let mut held = Piece {
         count: 0,
         whole: 0,
@@ -241,5 +246,7 @@ fn main() {
     let mut out = [0u8; Unit::SEQUENCE_TABLE];
     let mut piece = io::large_buffer();
     let mut text = io::large_buffer();
-    run(&mut seqs, &mut lists, &mut out, &mut piece, &mut text);
+    let end = os::arg(1, &mut piece);
+    let kind = line::kind_named(octets::part(&piece, 0, end));
+    run(kind, &mut seqs, &mut lists, &mut out, &mut piece, &mut text);
 }

@@ -12,7 +12,8 @@ use borrow.Author.Tests.{eqb-true, not-false, ne-eqb, lt-leb, le-leb}
 use Rattle.octets.specs.Rows.{firstCode}
 use Rattle.octets.proofs.Laws.{none-holds}
 use Rattle.octets.proofs.LayoutLaws.{Octets}
-use Rattle.memory.specs.Memory.{flight, tablesWrong}
+use Rattle.memory.specs.declared.Format.{Format}
+use Rattle.memory.specs.Memory.{tablesWrong}
 use Rattle.sequence.specs.Env.{envOf}
 use Rattle.runner.specs.declared.Runner.{Runner}
 use Rattle.runner.specs.declared.Event.{Event}
@@ -70,11 +71,11 @@ took-by true u x code e m o =
     rw (← f) (ap (λ (r : Runner). withWatch (watched (x .event) (u .watch)) (withRunner r u)) m)
 took-by false u x code e m o = let z : _≡_ {A = ℕ} 0 1 = cc in absurd (omega arith)
 
-pub took : (u : Unit) (seqs lists : List ℕ) (e : Event) → unitStep flight u seqs lists .outcome ≡ Saw e → Took u e (unitStep flight u seqs lists .unit)
+pub took : (F : Format) (u : Unit) (seqs lists : List ℕ) (e : Event) → unitStep F u seqs lists .outcome ≡ Saw e → Took u e (unitStep F u seqs lists .unit)
 unfolding unitStep
-took u seqs lists e =
-    let code = firstCode (stepRows flight u seqs lists) in
-    took-by (eqb code 0) u (stepOf (envOf flight lists) seqs (u .runner)) code e (step-moves (u .runner) (envOf flight lists) seqs)
+took F u seqs lists e =
+    let code = firstCode (stepRows F u seqs lists) in
+    took-by (eqb code 0) u (stepOf (envOf F lists) seqs (u .runner)) code e (step-moves (u .runner) (envOf F lists) seqs)
 
 rest-by : (t : Bool) (u : Unit) → unitStepBy (cond t 17 0) u (to Idle (u .runner)) ≡ cond t (stepped (Denied 17) u) (stepped (Saw Idle) u)
 unfolding withStep
@@ -82,9 +83,9 @@ rest-by true u = refl
 rest-by false u = refl
 
 -- a unit that does not run idles, unless it is out of range
-pub at-rest : (u : Unit) (seqs lists : List ℕ) → tablesWrong seqs lists ≡ false → u .runner .running ≡ false → unitStep flight u seqs lists ≡ cond (outOfRange flight u) (stepped (Denied 17) u) (stepped (Saw Idle) u)
+pub at-rest : (F : Format) (u : Unit) (seqs lists : List ℕ) → tablesWrong F seqs lists ≡ false → u .runner .running ≡ false → unitStep F u seqs lists ≡ cond (outOfRange F u) (stepped (Denied 17) u) (stepped (Saw Idle) u)
 unfolding stepRows unitStep
-at-rest u seqs lists t n = simp (t, ← step-idle (envOf flight lists) seqs (u .runner) n) (rest-by (outOfRange flight u) u)
+at-rest F u seqs lists t n = simp (t, ← step-idle (envOf F lists) seqs (u .runner) n) (rest-by (outOfRange F u) u)
 
 idle-left : (t : Bool) (held : ℕ) (s : List ℕ) (u : Unit) (r : UnitStep)
     → (t ≡ true → r .outcome ≡ Saw Idle → stateOf (r .unit) ≡ s)
@@ -92,27 +93,27 @@ idle-left : (t : Bool) (held : ℕ) (s : List ℕ) (u : Unit) (r : UnitStep)
 idle-left true held s u r k o = rw o (k refl o)
 idle-left false held s u r k o = let z : _≡_ {A = ℕ} 0 1 = cc in absurd (omega arith)
 
-module _ (s seqs lists : List ℕ) where
+module _ (F : Format) (s seqs lists : List ℕ) where
   -- "A step not running is idle and changes nothing."
-  pub idle-keeps : Octets s → heldStep s seqs lists .outcome ≡ Saw Idle → stateStepped s seqs lists ≡ s
+  pub idle-keeps : Octets s → heldStep F s seqs lists .outcome ≡ Saw Idle → stateStepped F s seqs lists ≡ s
   unfolding heldStep stateStepped
   idle-keeps octets =
-      let held = heldCode (tablesWrong seqs lists) s in
+      let held = heldCode (tablesWrong F seqs lists) s in
       let u = unitOf s in
-      idle-left (eqb held 0) held s u (unitStep flight u seqs lists)
-      (λ z o. let (sized, (flags, lent)) = held-passed (tablesWrong seqs lists) s (eqb-true held 0 z) in ap stateOf (took u seqs lists Idle o) ∙ load-save s sized octets flags)
+      idle-left (eqb held 0) held s u (unitStep F u seqs lists)
+      (λ z o. let (sized, (flags, lent)) = held-passed (tablesWrong F seqs lists) s (eqb-true held 0 z) in ap stateOf (took F u seqs lists Idle o) ∙ load-save s sized octets flags)
 
   -- "16 and 17 leave every lent byte as it was"
-  pub denied-keeps : (code : ℕ) → heldStep s seqs lists .outcome ≡ Denied code → stateStepped s seqs lists ≡ s
+  pub denied-keeps : (code : ℕ) → heldStep F s seqs lists .outcome ≡ Denied code → stateStepped F s seqs lists ≡ s
   unfolding stateStepped
   denied-keeps code o = rw o
 
 -- ── a packet
 -- a refused packet changes the ledger alone
-refused-unit : (u : Unit) (seqs lists out p : List ℕ) → (codeOf flight u seqs lists out p ≡ 0 → ⊥) → withLedger (unitAfter flight u seqs lists out p .ledger) u ≡ unitAfter flight u seqs lists out p
-refused-unit u seqs lists out p n =
-    let k = refused-keeps flight u seqs lists out p 0 n in
-    λ i. record { ledger = unitAfter flight u seqs lists out p .ledger; control = sym (k .control) i; watch = sym (k .watch) i; runner = sym (k .runner) i }
+refused-unit : (F : Format) (u : Unit) (seqs lists out p : List ℕ) → (codeOf F u seqs lists out p ≡ 0 → ⊥) → withLedger (unitAfter F u seqs lists out p .ledger) u ≡ unitAfter F u seqs lists out p
+refused-unit F u seqs lists out p n =
+    let k = refused-keeps F u seqs lists out p 0 n in
+    λ i. record { ledger = unitAfter F u seqs lists out p .ledger; control = sym (k .control) i; watch = sym (k .watch) i; runner = sym (k .runner) i }
 
 -- a code of the unit's own rules: the bytes are not refused before them
 passed-by : (held code : ℕ) → ((held ≡ 0 → ⊥) → 16 ≤ held) → cond (eqb held 0) code held ≤ 10 → (held ≡ 0) × (cond (eqb held 0) code held ≡ code)
@@ -137,39 +138,39 @@ ledger-beside : (l : Ledger) (u : Unit) (i : ℕ) → Beside i → getD (stateOf
 unfolding stateOf
 ledger-beside l u = beside (stateOf (withLedger l u)) (stateOf u) refl refl refl
 
-module _ (s : List ℕ) (time : ℕ) (seqs lists out p : List ℕ) where
+module _ (F : Format) (s : List ℕ) (time : ℕ) (seqs lists out p : List ℕ) where
   -- no table and no output is written
   pub record Unwritten : Type 0 where
-    pub sequences : keptSeqs s seqs lists out p ≡ seqs
-    pub linelists : keptLists s seqs lists out p ≡ lists
-    pub output : keptOut s time seqs lists out p ≡ out
+    pub sequences : keptSeqs F s seqs lists out p ≡ seqs
+    pub linelists : keptLists F s seqs lists out p ≡ lists
+    pub output : keptOut F s time seqs lists out p ≡ out
 
-  unwritten : (packetCode s seqs lists out p ≡ 0 → ⊥) → Unwritten
+  unwritten : (packetCode F s seqs lists out p ≡ 0 → ⊥) → Unwritten
   unfolding keptSeqs keptLists keptOut
-  unwritten n = let e = ne-eqb (packetCode s seqs lists out p) 0 n in record { sequences = simp e; linelists = simp e; output = simp e }
+  unwritten n = let e = ne-eqb (packetCode F s seqs lists out p) 0 n in record { sequences = simp e; linelists = simp e; output = simp e }
 
-  high-keeps : 16 ≤ packetCode s seqs lists out p → (stateAfter s seqs lists out p ≡ s) × Unwritten
+  high-keeps : 16 ≤ packetCode F s seqs lists out p → (stateAfter F s seqs lists out p ≡ s) × Unwritten
   unfolding stateAfter
-  high-keeps h = (simp (le-leb 16 (packetCode s seqs lists out p) h), unwritten (λ z. omega arith))
+  high-keeps h = (simp (le-leb 16 (packetCode F s seqs lists out p) h), unwritten (λ z. omega arith))
 
   -- "16 and 17 leave every lent byte as it was."
-  pub sixteen-keeps : packetCode s seqs lists out p ≡ 16 → (stateAfter s seqs lists out p ≡ s) × Unwritten
+  pub sixteen-keeps : packetCode F s seqs lists out p ≡ 16 → (stateAfter F s seqs lists out p ≡ s) × Unwritten
   sixteen-keeps e = high-keeps (omega arith)
 
-  pub seventeen-keeps : packetCode s seqs lists out p ≡ 17 → (stateAfter s seqs lists out p ≡ s) × Unwritten
+  pub seventeen-keeps : packetCode F s seqs lists out p ≡ 17 → (stateAfter F s seqs lists out p ≡ s) × Unwritten
   seventeen-keeps e = high-keeps (omega arith)
 
   -- a refused packet changes no byte of the state but those of the counts, the failure and the log
-  pub refused-bytes : Octets s → 1 ≤ packetCode s seqs lists out p → packetCode s seqs lists out p ≤ 10
-      → ((i : ℕ) → Beside i → getD (stateAfter s seqs lists out p) i 0 ≡ getD s i 0) × Unwritten
+  pub refused-bytes : Octets s → 1 ≤ packetCode F s seqs lists out p → packetCode F s seqs lists out p ≤ 10
+      → ((i : ℕ) → Beside i → getD (stateAfter F s seqs lists out p) i 0 ≡ getD s i 0) × Unwritten
   unfolding packetCode stateAfter
   refused-bytes octets low high =
-      let lent = lentWrong seqs lists out in
+      let lent = lentWrong F seqs lists out in
       let u = unitOf s in
-      let v = unitAfter flight u seqs lists out p in
-      let (none, code) = passed-by (heldCode lent s) (codeOf flight u seqs lists out p) (held-high lent s (heldCode lent s) refl) high in
+      let v = unitAfter F u seqs lists out p in
+      let (none, code) = passed-by (heldCode lent s) (codeOf F u seqs lists out p) (held-high lent s (heldCode lent s) refl) high in
       let (sized, (flags, fits)) = held-passed lent s none in
-      let part = refused-unit u seqs lists out p (λ z. omega (arith, code)) in
-      let after : stateAfter s seqs lists out p ≡ stateOf (withLedger (v .ledger) u) = simp (lt-leb 16 (packetCode s seqs lists out p) (omega arith)) (ap stateOf (sym part)) in
+      let part = refused-unit F u seqs lists out p (λ z. omega (arith, code)) in
+      let after : stateAfter F s seqs lists out p ≡ stateOf (withLedger (v .ledger) u) = simp (lt-leb 16 (packetCode F s seqs lists out p) (omega arith)) (ap stateOf (sym part)) in
       let before = load-save s sized octets flags in
       (λ i b. ap (λ (l : List ℕ). getD l i 0) after ∙ ledger-beside (v .ledger) u i b ∙ ap (λ (l : List ℕ). getD l i 0) before, unwritten (λ z. omega arith))

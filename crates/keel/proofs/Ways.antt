@@ -11,7 +11,8 @@ use borrow.Author.Tests.{leb-true, le-leb, ne-eqb}
 use Rattle.octets.specs.Bytes.{two, eight}
 use Rattle.octets.proofs.LayoutLaws.{Octets}
 use Rattle.octets.proofs.Bools.{either}
-use Rattle.memory.specs.Memory.{flight, tablesWrong, written}
+use Rattle.memory.specs.declared.Format.{Format}
+use Rattle.memory.specs.Memory.{tablesWrong, written}
 use Rattle.runner.specs.declared.Event.{Event}
 use Rattle.runner.specs.declared.Event.the-variants.{Idle}
 use Rattle.runner.specs.Events.{shownAs}
@@ -48,10 +49,10 @@ reply-short k u time seqs lists p =
     either P (is Status k) _ _ (omega arith) (either P (is Dump k) _ [] (dump-short seqs lists p) (omega arith))
 
 -- what answers a packet is never longer than the least output that is lent
-pub short : (u : Unit) (time : ℕ) (seqs lists out p : List ℕ) (a : Answer) → a ≡ answerOf flight u time seqs lists out p → a .size ≤ 16384
+pub short : (F : Format) (u : Unit) (time : ℕ) (seqs lists out p : List ℕ) (a : Answer) → a ≡ answerOf F u time seqs lists out p → a .size ≤ 16384
 unfolding replyOf answerOf
-short u time seqs lists out p a e =
-    rw e (either (λ (l : List ℕ). length l ≤ 16384) (eqb (codeOf flight u seqs lists out p) 0) (reply (commandOf p) u time seqs lists p) [] (reply-short (commandOf p) u time seqs lists p) (omega arith))
+short F u time seqs lists out p a e =
+    rw e (either (λ (l : List ℕ). length l ≤ 16384) (eqb (codeOf F u seqs lists out p) 0) (reply (commandOf p) u time seqs lists p) [] (reply-short (commandOf p) u time seqs lists p) (omega arith))
 
 -- ── a packet
 twice : {A : Type 0} (t : Bool) (a b : A) → cond t (cond t a b) b ≡ cond t a b
@@ -67,23 +68,23 @@ decided : (t : Bool) (x a b : List ℕ) → (t ≡ true → x ≡ a) → x ≡ b
 decided true x a b f g = f refl
 decided false x a b f g = g
 
-module _ (u : Unit) (time : ℕ) (seqs lists out p : List ℕ) (a : Answer) (e : a ≡ answerOf flight u time seqs lists out p) where
+module _ (F : Format) (u : Unit) (time : ℕ) (seqs lists out p : List ℕ) (a : Answer) (e : a ≡ answerOf F u time seqs lists out p) where
   -- 16 and 17 leave the unit as it was
   pub answer-kept : 16 ≤ a .code → a .unit ≡ u
   unfolding answerOf unitAfter refusedUnit
-  answer-kept h = let k = rw e at h in rw e (simp (ne-eqb (codeOf flight u seqs lists out p) 0 (λ z. omega arith), le-leb 16 (codeOf flight u seqs lists out p) k))
+  answer-kept h = let k = rw e at h in rw e (simp (ne-eqb (codeOf F u seqs lists out p) 0 (λ z. omega arith), le-leb 16 (codeOf F u seqs lists out p) k))
 
-module _ (s : List ℕ) (time : ℕ) (seqs lists out p : List ℕ) where
+module _ (F : Format) (s : List ℕ) (time : ℕ) (seqs lists out p : List ℕ) where
   abbrev pub Answered : ℕ → List ℕ → List ℕ → List ℕ → List ℕ → Type 0
   Answered r s' seqs' lists' out' =
-      (r ≡ packetAnswer s time seqs lists out p)
-      × ((s' ≡ stateAfter s seqs lists out p)
-      × ((seqs' ≡ keptSeqs s seqs lists out p)
-      × ((lists' ≡ keptLists s seqs lists out p)
-      × (out' ≡ keptOut s time seqs lists out p))))
+      (r ≡ packetAnswer F s time seqs lists out p)
+      × ((s' ≡ stateAfter F s seqs lists out p)
+      × ((seqs' ≡ keptSeqs F s seqs lists out p)
+      × ((lists' ≡ keptLists F s seqs lists out p)
+      × (out' ≡ keptOut F s time seqs lists out p))))
 
-  module _ (lent : Bool) (held : ℕ) (size : lent ≡ lentWrong seqs lists out) (told : held ≡ heldCode lent s) where
-    holds : held ≡ heldCode (lentWrong seqs lists out) s
+  module _ (lent : Bool) (held : ℕ) (size : lent ≡ lentWrong F seqs lists out) (told : held ≡ heldCode lent s) where
+    holds : held ≡ heldCode (lentWrong F seqs lists out) s
     holds = told ∙ ap (λ (t : Bool). heldCode t s) size
 
     -- the bytes are refused before they are read
@@ -94,7 +95,7 @@ module _ (s : List ℕ) (time : ℕ) (seqs lists out p : List ℕ) where
 
     -- the unit's answer stands, and its state where it is not refused with 16 or 17
     module _ (none : held ≡ 0) (u : Unit) (read : u ≡ unitOf s) (a : Answer) (seqs' lists' out' : List ℕ)
-        (e : (a ≡ answerOf flight u time seqs lists out p) × ((seqs' ≡ seqsAfter flight u seqs lists out p) × ((lists' ≡ listsAfter flight u seqs lists out p) × (out' ≡ outAfter flight u time seqs lists out p)))) where
+        (e : (a ≡ answerOf F u time seqs lists out p) × ((seqs' ≡ seqsAfter F u seqs lists out p) × ((lists' ≡ listsAfter F u seqs lists out p) × (out' ≡ outAfter F u time seqs lists out p)))) where
       stands : (s' : List ℕ) → s' ≡ cond (leb 16 (a .code)) s (stateOf (a .unit)) → Answered (a .code + 256 * a .size) s' seqs' lists' out'
       unfolding packetCode packetReply packetAnswer stateAfter keptSeqs keptLists keptOut seqsAfter listsAfter outAfter replyOf answerOf
       stands s' f =
@@ -104,16 +105,16 @@ module _ (s : List ℕ) (time : ℕ) (seqs lists out p : List ℕ) where
       answered s' o w =
           let (sized, (flags, fits)) = held-passed lent s (sym told ∙ none) in
           let same : s ≡ stateOf u = sym (ap stateOf read ∙ load-save s sized o flags) in
-          let f : s' ≡ stateOf (a .unit) = w ∙ rw (same, e .0) (answer-saved flight u time seqs lists out p) in
-          stands s' (decided (leb 16 (a .code)) s' s (stateOf (a .unit)) (λ h. f ∙ ap stateOf (answer-kept u time seqs lists out p a (e .0) (leb-true 16 (a .code) h)) ∙ sym same) f)
+          let f : s' ≡ stateOf (a .unit) = w ∙ rw (same, e .0) (answer-saved F u time seqs lists out p) in
+          stands s' (decided (leb 16 (a .code)) s' s (stateOf (a .unit)) (λ h. f ∙ ap stateOf (answer-kept F u time seqs lists out p a (e .0) (leb-true 16 (a .code) h)) ∙ sym same) f)
 
 -- ── a step
-module _ (s seqs lists : List ℕ) where
+module _ (F : Format) (s seqs lists : List ℕ) where
   abbrev pub Stepped : ℕ → List ℕ → Type 0
-  Stepped r s' = (r ≡ stepAnswer s seqs lists) × (s' ≡ stateStepped s seqs lists)
+  Stepped r s' = (r ≡ stepAnswer F s seqs lists) × (s' ≡ stateStepped F s seqs lists)
 
-  module _ (lent : Bool) (held : ℕ) (size : lent ≡ tablesWrong seqs lists) (told : held ≡ heldCode lent s) where
-    by-size : held ≡ heldCode (tablesWrong seqs lists) s
+  module _ (lent : Bool) (held : ℕ) (size : lent ≡ tablesWrong F seqs lists) (told : held ≡ heldCode lent s) where
+    by-size : held ≡ heldCode (tablesWrong F seqs lists) s
     by-size = told ∙ ap (λ (t : Bool). heldCode t s) size
 
     pub step-held-back : (held ≡ 0 → ⊥) → Stepped (deniedAs held) s
@@ -121,7 +122,7 @@ module _ (s seqs lists : List ℕ) where
     step-held-back n = simp (← by-size, ne-eqb held 0 n) (refl, refl)
 
     module _ (none : held ≡ 0) (u : Unit) (read : u ≡ unitOf s) where
-      module _ (r : UnitStep) (e : r ≡ unitStep flight u seqs lists) where
+      module _ (r : UnitStep) (e : r ≡ unitStep F u seqs lists) where
         pub denies : (code : ℕ) → r .outcome ≡ Denied code → Stepped (deniedAs code) s
         unfolding heldStep stepAnswer stateStepped
         denies code o = simp (← by-size, none, ← read, ← e, o) (refl, refl)
@@ -135,19 +136,19 @@ module _ (s seqs lists : List ℕ) where
 
       -- a unit that does not run: nothing is written
       module _ (still : u .runner .running ≡ false) where
-        rests : unitStep flight u seqs lists ≡ cond (outOfRange flight u) (stepped (Denied 17) u) (stepped (Saw Idle) u)
-        rests = let (sized, (flags, fits)) = held-passed lent s (sym told ∙ none) in at-rest u seqs lists (sym size ∙ fits) still
+        rests : unitStep F u seqs lists ≡ cond (outOfRange F u) (stepped (Denied 17) u) (stepped (Saw Idle) u)
+        rests = let (sized, (flags, fits)) = held-passed lent s (sym told ∙ none) in at-rest F u seqs lists (sym size ∙ fits) still
 
-        pub refuses : outOfRange flight u ≡ true → Stepped (deniedAs 17) s
+        pub refuses : outOfRange F u ≡ true → Stepped (deniedAs 17) s
         refuses h = denies (stepped (Denied 17) u) (sym (simp h at rests)) 17 refl
 
-        pub idles : Octets s → outOfRange flight u ≡ false → Stepped 0 s
+        pub idles : Octets s → outOfRange F u ≡ false → Stepped 0 s
         idles octets h = sees (stepped (Saw Idle) u) (sym (simp h at rests)) Idle s refl (same octets)
 
       -- a unit that runs: what the event moves is written
-      pub moves-on : (r : UnitStep) → r ≡ unitStep flight u seqs lists → Octets s → (event : Event) → r .outcome ≡ Saw event → (s' : List ℕ) → s' ≡ stepOver event (r .unit) s → Stepped (packed (shownAs (r .unit .watch .exposures) event)) s'
+      pub moves-on : (r : UnitStep) → r ≡ unitStep F u seqs lists → Octets s → (event : Event) → r .outcome ≡ Saw event → (s' : List ℕ) → s' ≡ stepOver event (r .unit) s → Stepped (packed (shownAs (r .unit .watch .exposures) event)) s'
       moves-on r e octets event saw s' f =
-          let k : Took u event (r .unit) = rw e (took u seqs lists event (rw e at saw)) in
+          let k : Took u event (r .unit) = rw e (took F u seqs lists event (rw e at saw)) in
           sees r e event s' saw (f ∙ rw (same octets) (ap (λ (v : Unit). stepOver event v (stateOf u)) k ∙ step-saved event u (r .unit .runner) ∙ ap stateOf (sym k)))
 
 -- ── power-on

@@ -7,7 +7,7 @@ use mathlib.Core.List.{List, _∷_, _++_}
 use lib.Dec.{eqb}
 use lib.ListN.{length}
 use Rattle.octets.specs.Bytes.{two, eight}
-use Rattle.memory.specs.Memory.{flight}
+use Rattle.memory.specs.declared.Format.{Format}
 use Rattle.survey.specs.Chain.{Told, checkOf}
 use Rattle.survey.specs.Report.{endingShown, reasonOf, reasonShown, padded}
 
@@ -21,8 +21,8 @@ abbrev pub reportSized : List ℕ → Bool
 reportSized r = eqb (length r) 152
 
 -- "another size: 16, untouched"
-unfoldable pub checkAnswer : List ℕ → List ℕ → ℕ → List ℕ → ℕ
-checkAnswer seqs lists n r = cond (reportSized r) (endingShown (checkOf flight seqs lists n .ending) .code) 16
+unfoldable pub checkAnswer : Format → List ℕ → List ℕ → ℕ → List ℕ → ℕ
+checkAnswer F seqs lists n r = cond (reportSized r) (endingShown (checkOf F seqs lists n .ending) .code) 16
 
-unfoldable pub reportAfter : List ℕ → List ℕ → ℕ → List ℕ → List ℕ
-reportAfter seqs lists n r = cond (reportSized r) (reportBytes (checkOf flight seqs lists n)) r
+unfoldable pub reportAfter : Format → List ℕ → List ℕ → ℕ → List ℕ → List ℕ
+reportAfter F seqs lists n r = cond (reportSized r) (reportBytes (checkOf F seqs lists n)) r

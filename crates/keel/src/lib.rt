@@ -3,6 +3,7 @@ ghost use mathlib.Core.Path.{_≡_};
 ghost use Prim.Native.Nat.{_+_, _*_, _≤_, _^_};
 ghost use lib.ListN.{length};
 ghost use Rattle.octets.specs.Bytes.{eight};
+ghost use Rattle.memory.specs.Memory.{formatOf};
 ghost use Rattle.runner.specs.Events.{shownAs};
 ghost use Rattle.survey.specs.Chain.{Told};
 ghost use Rattle.survey.specs.Report.{endingShown, reasonOf, reportOf};
@@ -64,6 +65,7 @@ fn answer_of(code: u8, size: usize) -> u32
 // One packet: the code, and 256 times the length of what was written to the output.
 #[no_mangle]
 pub extern "C" fn keel_packet(
+    kind: u32,
     state: &mut [u8],
     seqs: &mut [u8],
     lists: &mut [u8],
@@ -71,17 +73,17 @@ pub extern "C" fn keel_packet(
     time: u32,
     packet: &[u8],
 ) -> u32
-    ensures { λ r. ⌜ r ≡ packetAnswer (now (state .entry)) time (now (seqs .entry)) (now (lists .entry)) (now (out .entry)) (now (packet .entry)) ⌝ }
-    ensures { λ _. ⌜ now (state .exit) ≡ stateAfter (now (state .entry)) (now (seqs .entry)) (now (lists .entry)) (now (out .entry)) (now (packet .entry)) ⌝ }
-    ensures { λ _. ⌜ now (seqs .exit) ≡ keptSeqs (now (state .entry)) (now (seqs .entry)) (now (lists .entry)) (now (out .entry)) (now (packet .entry)) ⌝ }
-    ensures { λ _. ⌜ now (lists .exit) ≡ keptLists (now (state .entry)) (now (seqs .entry)) (now (lists .entry)) (now (out .entry)) (now (packet .entry)) ⌝ }
-    ensures { λ _. ⌜ now (out .exit) ≡ keptOut (now (state .entry)) time (now (seqs .entry)) (now (lists .entry)) (now (out .entry)) (now (packet .entry)) ⌝ }
+    ensures { λ r. ⌜ r ≡ packetAnswer (formatOf kind) (now (state .entry)) time (now (seqs .entry)) (now (lists .entry)) (now (out .entry)) (now (packet .entry)) ⌝ }
+    ensures { λ _. ⌜ now (state .exit) ≡ stateAfter (formatOf kind) (now (state .entry)) (now (seqs .entry)) (now (lists .entry)) (now (out .entry)) (now (packet .entry)) ⌝ }
+    ensures { λ _. ⌜ now (seqs .exit) ≡ keptSeqs (formatOf kind) (now (state .entry)) (now (seqs .entry)) (now (lists .entry)) (now (out .entry)) (now (packet .entry)) ⌝ }
+    ensures { λ _. ⌜ now (lists .exit) ≡ keptLists (formatOf kind) (now (state .entry)) (now (seqs .entry)) (now (lists .entry)) (now (out .entry)) (now (packet .entry)) ⌝ }
+    ensures { λ _. ⌜ now (out .exit) ≡ keptOut (formatOf kind) (now (state .entry)) time (now (seqs .entry)) (now (lists .entry)) (now (out .entry)) (now (packet .entry)) ⌝ }
 {
-    let held = held_code(unit::lent_wrong(seqs, lists, out), state);
+    let held = held_code(unit::lent_wrong(kind, seqs, lists, out), state);
     if held != 0 {
         return held as u32;
     }
-    let answer = state::unit_of(state).packet(Format::flight(), seqs, lists, out, time, packet);
+    let answer = state::unit_of(state).packet(kind, seqs, lists, out, time, packet);
     state::save_answer(answer, packet, state);
     answer_of(answer.code, answer.size)
 }
@@ -124,22 +126,22 @@ fn denied(code: u8) -> u64
 
 // One step: the event in the low 8 bits, its values in 16 bits each at bits 16, 32 and 48.
 #[no_mangle]
-pub extern "C" fn keel_step(state: &mut [u8], seqs: &[u8], lists: &[u8]) -> u64
-    ensures { λ r. ⌜ r ≡ stepAnswer (now (state .entry)) (now (seqs .entry)) (now (lists .entry)) ⌝ }
-    ensures { λ _. ⌜ now (state .exit) ≡ stateStepped (now (state .entry)) (now (seqs .entry)) (now (lists .entry)) ⌝ }
+pub extern "C" fn keel_step(kind: u32, state: &mut [u8], seqs: &[u8], lists: &[u8]) -> u64
+    ensures { λ r. ⌜ r ≡ stepAnswer (formatOf kind) (now (state .entry)) (now (seqs .entry)) (now (lists .entry)) ⌝ }
+    ensures { λ _. ⌜ now (state .exit) ≡ stateStepped (formatOf kind) (now (state .entry)) (now (seqs .entry)) (now (lists .entry)) ⌝ }
 {
-    let held = held_code(memory::tables_wrong(seqs, lists), state);
+    let held = held_code(memory::tables_wrong(kind, seqs, lists), state);
     if held != 0 {
         return denied(held);
     }
     let unit = state::unit_of(state);
     if !unit.runner.running {
-        if unit.out_of_range(Format::flight()) {
+        if unit.out_of_range(Format::of(kind)) {
             return denied(17);
         }
         return 0;
     }
-    let stepped = unit.step(Format::flight(), seqs, lists);
+    let stepped = unit.step(kind, seqs, lists);
     let outcome = stepped.outcome;
     match outcome {
         Outcome::Denied(code) => denied(code),
@@ -250,12 +252,18 @@ fn tell(found: Report, report: &mut [u8]) -> u8
 
 // The table check of a sequence: its code, and its report of 152 bytes.
 #[no_mangle]
-pub extern "C" fn keel_check(seqs: &[u8], lists: &[u8], number: u32, report: &mut [u8]) -> u32
-    ensures { λ r. ⌜ r ≡ checkAnswer (now (seqs .entry)) (now (lists .entry)) number (now (report .entry)) ⌝ }
-    ensures { λ _. ⌜ now (report .exit) ≡ reportAfter (now (seqs .entry)) (now (lists .entry)) number (now (report .entry)) ⌝ }
+pub extern "C" fn keel_check(
+    kind: u32,
+    seqs: &[u8],
+    lists: &[u8],
+    number: u32,
+    report: &mut [u8],
+) -> u32
+    ensures { λ r. ⌜ r ≡ checkAnswer (formatOf kind) (now (seqs .entry)) (now (lists .entry)) number (now (report .entry)) ⌝ }
+    ensures { λ _. ⌜ now (report .exit) ≡ reportAfter (formatOf kind) (now (seqs .entry)) (now (lists .entry)) number (now (report .entry)) ⌝ }
 {
     if report.len() != REPORT {
         return 16;
     }
-    tell(survey::check(seqs, lists, number), report) as u32
+    tell(survey::check(kind, seqs, lists, number), report) as u32
 }

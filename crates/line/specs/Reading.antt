@@ -26,13 +26,22 @@ zeroLeads s = eqb (byteAt s 0) 48 && ltb 1 (length s)
 unfoldable pub numeralOf : List ℕ → Numeral
 numeralOf s = cond (isFigure s && not (zeroLeads s) && leb (shownOn 0 s) 65535) (Value (shownOn 0 s)) Wrong
 
--- ── what a line says
+-- ── words
 -- a line starts with a word
 unfoldable pub begins : List ℕ → List ℕ → Bool
 begins [] line = true
 begins (w ∷ ws) [] = false
 begins (w ∷ ws) (b ∷ bs) = eqb w b && begins ws bs
 
+-- a word is the one wanted
+unfoldable pub isWord : List ℕ → List ℕ → Bool
+isWord wanted word = eqb (length word) (length wanted) && begins wanted word
+
+-- the kind of the tables, by a program's first argument: `old` for kind 1, without it kind 0
+unfoldable pub kindNamed : List ℕ → ℕ
+kindNamed word = cond (isWord (bytesOf "old") word) 1 0
+
+-- ── what a line says
 -- "an even number of hex digits of either case, at most 280 (a packet; none is the empty packet ..)"
 unfoldable pub isPacket : List ℕ → Bool
 isPacket line = eqb (length line % 2) 0 && leb (length line) 280 && all isHex line

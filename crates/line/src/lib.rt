@@ -10,7 +10,7 @@ ghost use Prim.Native.Nat.{_+_, _*_, _≤_, _<_};
 ghost use lib.ListN.{length, drop};
 ghost use Rattle.line.specs.Digits.{digitOf, valueOf, isHex, hexOf, bytesIn, decimal, all, each};
 ghost use Rattle.line.specs.Writing.{putOver, Laid, spaced, wordLine, answerText, kindText, blockText, eventText, badText};
-ghost use Rattle.line.specs.Reading.{zeroLeads, numeralOf, begins, isPacket, stepsLine, lineOf, packetAfter};
+ghost use Rattle.line.specs.Reading.{zeroLeads, numeralOf, begins, isWord, kindNamed, isPacket, stepsLine, lineOf, packetAfter};
 use runner::Event;
 
 // The most hex digits that a packet's line has.
@@ -362,6 +362,23 @@ pub fn begins(line: &[u8], word: &[u8]) -> bool
         i += 1;
     }
     true
+}
+
+// Whether a word is the one wanted.
+pub fn is_word(word: &[u8], wanted: &[u8]) -> bool
+    ensures { λ r. ⌜ r ≡ isWord (now (wanted .entry)) (now (word .entry)) ⌝ }
+{
+    if word.len() != wanted.len() {
+        return false;
+    }
+    begins(word, wanted)
+}
+
+// The kind of the tables, by a program's first argument: `old` or anything else.
+pub fn kind_named(word: &[u8]) -> u32
+    ensures { λ r. ⌜ r ≡ kindNamed (now (word .entry)) ⌝ }
+{
+    if is_word(word, b"old") { 1 } else { 0 }
 }
 
 // The steps that a line asks for: `STEP n`.

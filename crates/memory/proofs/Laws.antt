@@ -1,6 +1,7 @@
 -- Laws of the tables: a range lies in its table, what a write leaves, how long an entry is. Assumes nothing.
-use Prim.Native.Nat.{ℕ, _+_, _-_, _≤_, _<_}
-use native.Mathlib.Nat.{add-sub-cancel-left}
+use Prim.Native.Nat.{ℕ, zero, suc, _+_, _*_, _-_, _≤_, _<_}
+use native.Mathlib.Nat.{add-sub-cancel-left, mul-le-mul}
+use native.Mathlib.Decide.{decLt}
 use native.Mathlib.Omega.{arith}
 use mathlib.Core.Path.{_≡_, refl, sym, ap, _∙_}
 use mathlib.Core.Bool.{Bool, true, false, not, _&&_, _||_}
@@ -9,14 +10,14 @@ use mathlib.Core.Logic.{_⊎_, ⊎-elim}
 use lib.Dec.{ltb, leb, eqb}
 use lib.ListN.{length, getD, take, drop, length-append, length-take, length-drop, drop-of-length-le, List·getD-append}
 use lib.Seq.{take-length, take-append-seam, drop-drop, length-take-le, getD-take, getD-drop, getD-append-add}
-use borrow.Author.Tests.{lt-leb, le-leb, eq-eqb, ne-eqb, leb-true, leb-false, eqb-true, eqb-false, not-false}
+use borrow.Author.Tests.{lt-leb, le-leb, eq-eqb, ne-eqb, leb-true, leb-false, eqb-true, eqb-false, not-false, ltb-true, ltb-false}
 use Rattle.octets.proofs.Bools.{and-both, or-neither, choice}
 use Rattle.memory.specs.declared.Format.{Format}
 use Rattle.memory.specs.declared.Addressed.{Addressed}
 use Rattle.memory.specs.declared.Addressed.the-variants.{Known, Nowhere}
 use Rattle.memory.specs.declared.Range.{Range}
 use Rattle.memory.specs.declared.Range.the-variants.{Sequences, LineLists, Wrong}
-use Rattle.memory.specs.Memory.{entryOf, tablesWrong, within, rangeOf, rangeFrom, rangeAt, partOf, windowCode, windowPart, written}
+use Rattle.memory.specs.Memory.{formatOf, fills, entryOf, tablesWrong, within, rangeOf, rangeFrom, rangeAt, partOf, windowCode, windowPart, written}
 
 -- ── ranges
 module _ (first size a len : ℕ) where
@@ -68,24 +69,71 @@ range-fits a len =
     choice P (ltb a 0x070000) Nowhere _ (λ _. tt)
     (λ _. choice P (ltb a 0x075EC0) (Known (record { 0 = a })) Nowhere (λ _. of-fits a len) (λ _. tt))
 
--- ── sizes
-pub sizes : (s l : List ℕ) → tablesWrong s l ≡ false → (length s ≡ 16384) × (length l ≡ 7872)
-unfolding tablesWrong
-sizes s l h =
-    let (p, q) = or-neither (not (eqb (length s) 16384)) (not (eqb (length l) 7872)) h in
-    (eqb-true (length s) 16384 (not-false (eqb (length s) 16384) p), eqb-true (length l) 7872 (not-false (eqb (length l) 7872) q))
+-- ── formats and sizes
+-- a format that fills the table: what its test says, and that its entries are no shorter than 128
+pub record Fair (F : Format) : Type 0 where
+  pub whole : F .size * (F .last + 1) ≡ 16384
+  pub size : F .size ≤ 256
+  pub last : F .last ≤ 127
+  pub room : 128 ≤ F .size
 
-pub right-sizes : (s l : List ℕ) → length s ≡ 16384 → length l ≡ 7872 → tablesWrong s l ≡ false
-unfolding tablesWrong
-right-sizes s l p q = simp (eq-eqb (length s) 16384 p, eq-eqb (length l) 7872 q)
+pub fair-of : (F : Format) → fills F ≡ true → Fair F
+unfolding fills
+fair-of F h =
+    let (p, q) = and-both (eqb (F .size * (F .last + 1)) 16384) (leb (F .size) 256 && leb (F .last) 127) h in
+    let (r, s) = and-both (leb (F .size) 256) (leb (F .last) 127) q in
+    let e = eqb-true (F .size * (F .last + 1)) 16384 p in
+    let l = leb-true (F .last) 127 s in
+    record { whole = e; size = leb-true (F .size) 256 r; last = l; room = of-product (F .size) (F .last) e l }
+  where
+    of-product : (size last : ℕ) → size * (last + 1) ≡ 16384 → last ≤ 127 → 128 ≤ size
+    of-product size last e l = near (decLt size 128)
+      where
+        near : Dec (size < 128) → 128 ≤ size
+        near (yes m) =
+            let a : size ≤ 127 = omega arith in
+            let b : last + 1 ≤ 128 = omega arith in
+            let c : size * (last + 1) ≤ 127 * 128 = mul-le-mul a b in
+            absurd (omega arith)
+        near (no m) = omega arith
+
+-- the two kinds' formats fill it, and no other number's
+pub kind-fills : (kind : ℕ) → kind ≤ 1 → fills (formatOf kind) ≡ true
+unfolding fills
+kind-fills zero h = refl
+kind-fills (suc zero) h = refl
+kind-fills (suc (suc k)) h = absurd (omega arith)
+
+pub no-kind : (kind : ℕ) → 1 < kind → fills (formatOf kind) ≡ false
+unfolding fills
+no-kind kind h = simp (ne-eqb kind 0 (λ e. omega arith), ne-eqb kind 1 (λ e. omega arith))
+
+pub not-fills : (kind : ℕ) → not (fills (formatOf kind)) ≡ ltb 1 kind
+not-fills kind = by (ltb 1 kind) refl
+  where
+    by : (t : Bool) → ltb 1 kind ≡ t → not (fills (formatOf kind)) ≡ t
+    by true e = ap not (no-kind kind (ltb-true 1 kind e))
+    by false e = ap not (kind-fills kind (ltb-false 1 kind e))
+
+module _ (F : Format) (s l : List ℕ) where
+  pub sizes : tablesWrong F s l ≡ false → (fills F ≡ true) × (length s ≡ 16384) × (length l ≡ 7872)
+  unfolding tablesWrong
+  sizes h =
+      let (f, g) = or-neither (not (fills F)) (not (eqb (length s) 16384) || not (eqb (length l) 7872)) h in
+      let (p, q) = or-neither (not (eqb (length s) 16384)) (not (eqb (length l) 7872)) g in
+      (not-false (fills F) f, eqb-true (length s) 16384 (not-false (eqb (length s) 16384) p), eqb-true (length l) 7872 (not-false (eqb (length l) 7872) q))
+
+  pub right-sizes : fills F ≡ true → length s ≡ 16384 → length l ≡ 7872 → tablesWrong F s l ≡ false
+  unfolding tablesWrong
+  right-sizes f p q = simp (f, eq-eqb (length s) 16384 p, eq-eqb (length l) 7872 q)
 
 -- ── the part that the desk asks for
-module _ (s l : List ℕ) (a len k : ℕ) (told : k ≡ windowCode s l a len) where
-  pub shown : (r v : Range) → k ≡ 0 → r ≡ rangeAt a len → r ≡ v → partOf s l len v ≡ windowPart s l a len
+module _ (F : Format) (s l : List ℕ) (a len k : ℕ) (told : k ≡ windowCode F s l a len) where
+  pub shown : (r v : Range) → k ≡ 0 → r ≡ rangeAt a len → r ≡ v → partOf s l len v ≡ windowPart F s l a len
   unfolding windowPart
   shown r v z e w = simp (← told, z, ← e, w)
 
-  pub hidden : (k ≡ 0 → ⊥) → [] ≡ windowPart s l a len
+  pub hidden : (k ≡ 0 → ⊥) → [] ≡ windowPart F s l a len
   unfolding windowPart
   hidden n = simp (← told, ne-eqb k 0 n)
 

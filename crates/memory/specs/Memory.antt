@@ -1,5 +1,5 @@
 -- Bytes and memory: the tables' places, addresses and ranges, the part that a range shows, and what a write leaves.
-use Prim.Native.Nat.{ℕ, _+_, _*_, _-_, _≤_}
+use Prim.Native.Nat.{ℕ, _+_, _*_, _-_}
 use mathlib.Core.Bool.{Bool, true, false, cond, not, _&&_, _||_}
 use mathlib.Core.List.{List, [], _∷_, _++_}
 use lib.Dec.{ltb, leb, eqb}
@@ -15,14 +15,20 @@ use Rattle.memory.specs.declared.Addressed.the-variants.{Known, Nowhere}
 use Rattle.memory.specs.declared.Range.{Range}
 use Rattle.memory.specs.declared.Range.the-variants.{Sequences, LineLists, Wrong}
 
--- "Sequence table: 128 entries of 128 bytes": an entry's size and the last number
+-- "64 entries of 256 bytes in the same 16,384, or 128 of 128": an entry's size and the last number, of the old unit on the bench and in flight
+abbrev pub bench : Format
+bench = record { size = 256; last = 63 }
+
 abbrev pub flight : Format
 flight = record { size = 128; last = 127 }
 
--- a format that there is room for: a place is a byte's number, and there are at most 128 sequences
-pub record Fair (F : Format) : Type 0 where
-  pub size : F .size ≤ 256
-  pub last : F .last ≤ 127
+-- the format of a kind's tables; another number is no kind, and entries of no bytes fill no table
+abbrev pub formatOf : ℕ → Format
+formatOf kind = cond (eqb kind 0) flight (cond (eqb kind 1) bench (record { size = 0; last = 0 }))
+
+-- a format that fills the table: a place is a byte's number, so an entry has at most 256 bytes, and there are at most 128 sequences
+unfoldable pub fills : Format → Bool
+fills F = eqb (F .size * (F .last + 1)) 16384 && (leb (F .size) 256 && leb (F .last) 127)
 
 -- sequence n's own bytes
 abbrev pub entryOf : Format → List ℕ → ℕ → List ℕ
@@ -32,9 +38,9 @@ entryOf F seqs n = take (F .size) (drop (n * F .size) seqs)
 abbrev pub listOf : List ℕ → ℕ → List ℕ
 listOf lists n = take 164 (drop (n * 164) lists)
 
--- "The caller lends both, 16,384 and 7,872 bytes exactly"
-unfoldable pub tablesWrong : List ℕ → List ℕ → Bool
-tablesWrong seqs lists = not (eqb (length seqs) 16384) || not (eqb (length lists) 7872)
+-- "The caller lends both, 16,384 and 7,872 bytes exactly"; "an unknown kind is 16"
+unfoldable pub tablesWrong : Format → List ℕ → List ℕ → Bool
+tablesWrong F seqs lists = not (fills F) || (not (eqb (length seqs) 16384) || not (eqb (length lists) 7872))
 
 -- "A place in a sequence and an address in memory are kept apart"
 abbrev pub placeAt : ℕ → Place
@@ -79,14 +85,14 @@ partOf seqs lists len (LineLists at) = take len (drop at lists)
 partOf seqs lists len Wrong = []
 
 -- "wrong tables give 16, then a bad length or range 7, each with an empty part"
-unfoldable pub windowRows : List ℕ → List ℕ → ℕ → ℕ → List Row
-windowRows seqs lists a len = row 16 (tablesWrong seqs lists) ∷ row 7 (isWrong (rangeAt a len)) ∷ []
+unfoldable pub windowRows : Format → List ℕ → List ℕ → ℕ → ℕ → List Row
+windowRows F seqs lists a len = row 16 (tablesWrong F seqs lists) ∷ row 7 (isWrong (rangeAt a len)) ∷ []
 
-unfoldable pub windowCode : List ℕ → List ℕ → ℕ → ℕ → ℕ
-windowCode seqs lists a len = firstCode (windowRows seqs lists a len)
+unfoldable pub windowCode : Format → List ℕ → List ℕ → ℕ → ℕ → ℕ
+windowCode F seqs lists a len = firstCode (windowRows F seqs lists a len)
 
-unfoldable pub windowPart : List ℕ → List ℕ → ℕ → ℕ → List ℕ
-windowPart seqs lists a len = cond (eqb (windowCode seqs lists a len) 0) (partOf seqs lists len (rangeAt a len)) []
+unfoldable pub windowPart : Format → List ℕ → List ℕ → ℕ → ℕ → List ℕ
+windowPart F seqs lists a len = cond (eqb (windowCode F seqs lists a len) 0) (partOf seqs lists len (rangeAt a len)) []
 
 -- a table with bytes written over it from an offset on, where they fit
 abbrev pub written : List ℕ → ℕ → List ℕ → List ℕ

@@ -4,12 +4,10 @@ ghost use mathlib.Core.Path.{_≡_};
 ghost use mathlib.Core.List.{_++_};
 ghost use Prim.Native.Nat.{_≤_};
 ghost use lib.ListN.{length, drop};
-ghost use Rattle.memory.specs.Memory.{flight, placeOf, addressOf, rangeOf, rangeFrom, rangeAt, within, isWrong, partOf, tablesWrong, windowCode, windowPart, written, seqsWritten, listsWritten, entryOf, listOf};
+ghost use Rattle.memory.specs.Memory.{formatOf, placeOf, addressOf, rangeOf, rangeFrom, rangeAt, within, isWrong, partOf, tablesWrong, windowCode, windowPart, written, seqsWritten, listsWritten, entryOf, listOf};
 
-// The sequence table: 128 entries of 128 bytes, from 0x070000.
+// The sequence table: 16,384 bytes from 0x070000. In flight it has 128 entries of 128 bytes; at most so many sequences are listed.
 pub const SEQUENCES: usize = 128;
-
-pub const LAST_SEQUENCE: u8 = (SEQUENCES - 1) as u8;
 
 pub const SEQUENCE_SIZE: usize = 128;
 
@@ -34,6 +32,11 @@ const PAST: u32 = 0x075EC0;
 // The longest part that the desk may ask for, and the least output that is lent.
 pub const LONGEST: usize = SEQUENCE_TABLE;
 
+// The kinds of the sequence table: the flight unit's, and that of the old one on the bench. There is no other.
+pub const FLIGHT: u32 = 0;
+
+pub const BENCH: u32 = 1;
+
 // The format of the sequence table: the size of an entry and the last sequence's number.
 pub struct Format {
     pub size: u16,
@@ -41,14 +44,23 @@ pub struct Format {
 }
 
 impl Format {
-    // The flight unit's: 128 entries of 128 bytes.
-    pub fn flight() -> Format
-        ensures { λ r. ⌜ r ≡ flight ⌝ }
+    // The format of a kind: in flight 128 entries of 128 bytes, on the bench 64 of 256. That of no kind fills no table.
+    pub fn of(kind: u32) -> Format
+        ensures { λ r. ⌜ r ≡ formatOf kind ⌝ }
     {
-        Format {
-            size: SEQUENCE_SIZE as u16,
-            last: LAST_SEQUENCE,
+        if kind == FLIGHT {
+            return Format {
+                size: 128,
+                last: 127,
+            };
         }
+        if kind == BENCH {
+            return Format {
+                size: 256,
+                last: 63,
+            };
+        }
+        Format { size: 0, last: 0 }
     }
 }
 
@@ -181,14 +193,14 @@ pub fn range_at(address: u32, len: usize) -> Range
     Address::of(address).range(len)
 }
 
-// Whether a lent table has a wrong size.
-pub fn tables_wrong(seqs: &[u8], lists: &[u8]) -> bool
-    ensures { λ r. ⌜ r ≡ tablesWrong (now (seqs .entry)) (now (lists .entry)) ⌝ }
+// Whether there is no such kind of tables, or a lent table has a wrong size.
+pub fn tables_wrong(kind: u32, seqs: &[u8], lists: &[u8]) -> bool
+    ensures { λ r. ⌜ r ≡ tablesWrong (formatOf kind) (now (seqs .entry)) (now (lists .entry)) ⌝ }
 {
-    if seqs.len() != SEQUENCE_TABLE {
-        return true;
-    }
-    lists.len() != LINE_LIST_TABLE
+    octets::either(
+        BENCH < kind,
+        octets::either(seqs.len() != SEQUENCE_TABLE, lists.len() != LINE_LIST_TABLE),
+    )
 }
 
 // A range's own bytes in its table; a wrong range has none.
@@ -202,23 +214,23 @@ pub fn part_of<'a>(seqs: &'a [u8], lists: &'a [u8], len: usize, range: Range) ->
     }
 }
 
-// The code beside the part that the desk asks for: 16 for wrong tables, then 7, else 0.
-pub fn window_code(seqs: &[u8], lists: &[u8], address: u32, len: usize) -> u8
-    ensures { λ r. ⌜ r ≡ windowCode (now (seqs .entry)) (now (lists .entry)) address len ⌝ }
+// The code beside the part that the desk asks for: 16 for wrong tables or no kind, then 7, else 0.
+pub fn window_code(kind: u32, seqs: &[u8], lists: &[u8], address: u32, len: usize) -> u8
+    ensures { λ r. ⌜ r ≡ windowCode (formatOf kind) (now (seqs .entry)) (now (lists .entry)) address len ⌝ }
 {
     let range = range_at(address, len);
     octets::refuse(
-        tables_wrong(seqs, lists),
+        tables_wrong(kind, seqs, lists),
         16,
         octets::refuse(range.is_wrong(), 7, 0),
     )
 }
 
 // The part that the desk asks for: the table's own bytes, or the empty part where the code is not 0.
-pub fn window<'a>(seqs: &'a [u8], lists: &'a [u8], address: u32, len: usize) -> &'a [u8]
-    ensures { λ r. ⌜ now r ≡ windowPart (now (seqs .entry)) (now (lists .entry)) address len ⌝ }
+pub fn window<'a>(kind: u32, seqs: &'a [u8], lists: &'a [u8], address: u32, len: usize) -> &'a [u8]
+    ensures { λ r. ⌜ now r ≡ windowPart (formatOf kind) (now (seqs .entry)) (now (lists .entry)) address len ⌝ }
 {
-    if window_code(seqs, lists, address, len) != 0 {
+    if window_code(kind, seqs, lists, address, len) != 0 {
         return &seqs[..0];
     }
     part_of(seqs, lists, len, range_at(address, len))

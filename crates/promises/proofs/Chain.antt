@@ -1,6 +1,5 @@
 -- Sequences one after another: the names (Listing, Names, Unique), that a run keeps what is told of them (Chains, Never, Laps, Working), what it
 -- shows (ChainShown, Plans), and all of it from the door of the first sequence (AsTold).
-pub mod Listing
 pub mod Chains
 pub mod Never
 pub mod ChainShown

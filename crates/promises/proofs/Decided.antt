@@ -10,7 +10,6 @@ use lib.ListN.{length, length-append, replicate}
 use borrow.Author.Tests.{ltb-true, ltb-false}
 use Rattle.octets.proofs.Bools.{by-test}
 use Rattle.memory.specs.declared.Format.{Format}
-use Rattle.memory.specs.Memory.{Fair}
 use Rattle.sequence.specs.declared.Fault.{Fault}
 use Rattle.sequence.specs.Text.{fault}
 use Rattle.survey.specs.declared.Ending.{Ending}
@@ -19,6 +18,7 @@ use Rattle.survey.specs.declared.Reason.{Reason}
 use Rattle.survey.specs.Chain.{Told}
 use Rattle.survey.specs.Report.{endingShown}
 use Rattle.unit.specs.declared.Outcome.{Outcome}
+use Rattle.promises.specs.Formats.{Fills}
 use Rattle.promises.specs.Library.{Library, ours}
 use Rattle.promises.specs.Runs.{Showing, enters, aborts}
 use Rattle.promises.specs.Kept.{IsPassed}
@@ -197,16 +197,16 @@ module _ (f : Format → List ℕ → List ℕ → ℕ → Told) where
         let same = same-abort k j (v .code) m (v .place) (v′ .code) m′ (v′ .place) r (seen s (suc (k + j))) (g (suc (k + j))) (g′ (suc (k + j))) (omega arith) (omega arith) in
         same-faulty s n m′ v′ r r′ t u a b (e ∙ same) w
 
-pub check-decided : {F : Format} → Fair F → 4 < F .size → CheckDecided F
-check-decided {F} fair size f d w r m n h =
+pub check-decided : {F : Format} → Fills F → CheckDecided F
+check-decided {F} full f d w r m n h =
     let room : List ℕ = replicate 16384 0 in
     let t = f F (w .seqs) (w .lists) n in
     let u = ours .checks F (w .seqs) (w .lists) n in
     let s = after ours (packet room 0 starting) (after ours (packet room 0 (selecting n)) w) in
     let (_, _, a, p, q) = d w (reached-too f r) m n h room room (omega arith) (omega arith) 0 0 in
-    let (_, _, b, p′, q′) = demand3 fair size w r m n h room room (omega arith) (omega arith) 0 0 in
-    let (_, selected, vs, vl) = selects fair size w r m n h room (omega arith) 0 in
-    let (_, _, ss, sl) = starts fair size n (after ours (packet room 0 (selecting n)) w) selected room (omega arith) 0 in
+    let (_, _, b, p′, q′) = demand3 full w r m n h room room (omega arith) (omega arith) 0 0 in
+    let (_, selected, vs, vl) = selects full w r m n h room (omega arith) 0 in
+    let (_, _, ss, sl) = starts full n (after ours (packet room 0 (selecting n)) w) selected room (omega arith) 0 in
     let still : w .seqs ≡ s .seqs = sym (ss ∙ vs) in
     let kept : w .lists ≡ s .lists = sym (sl ∙ vl) in
     decided f n s t u (subst₂ (λ (x y : List ℕ). Lists F x y n t) still kept a) (subst₂ (λ (x y : List ℕ). Lists F x y n u) still kept b) p q p′ q′

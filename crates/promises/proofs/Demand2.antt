@@ -5,6 +5,8 @@ use native.Mathlib.Omega.{arith}
 use mathlib.Core.Path.{_≡_, refl, sym, subst}
 use Rattle.octets.proofs.Laws.{code-exactly as first-exactly}
 use Rattle.memory.specs.declared.Format.{Format}
+use Rattle.memory.specs.Memory.{tablesWrong, windowRows, windowCode}
+use Rattle.memory.proofs.Laws.{no-kind}
 use Rattle.sequence.specs.Text.{fault}
 use Rattle.sequence.specs.Env.{envOf}
 use Rattle.runner.specs.declared.Event.the-variants.{Abort}
@@ -14,13 +16,14 @@ use Rattle.unit.specs.declared.Unit.{Unit as ControlUnit}
 use Rattle.unit.specs.declared.Outcome.the-variants.{Saw}
 use Rattle.unit.specs.declared.UnitStep.{UnitStep}
 use Rattle.unit.specs.State.{powerOn}
-use Rattle.unit.specs.Packet.{packetRows, codeOf}
+use Rattle.survey.specs.Chain.{checkRows, checkOf}
+use Rattle.unit.specs.Packet.{lentWrong, packetRows, codeOf}
 use Rattle.unit.specs.Answer.{answerOf}
-use Rattle.unit.specs.Step.{withStep}
+use Rattle.unit.specs.Step.{stepRows, withStep, unitStep}
 use Rattle.unit.proofs.Laws.{accepted}
 use Rattle.promises.specs.Library.{ours}
 use Rattle.promises.specs.Runs.{aborts}
-use Rattle.promises.specs.Demand2.{AcceptedExactly, CodeExactly, PowersOn, Aborted, AbortKeeps}
+use Rattle.promises.specs.Demand2.{AcceptedExactly, CodeExactly, NoOtherKind, PowersOn, Aborted, AbortKeeps}
 use Rattle.promises.proofs.Run.Events.{outcome-shown}
 use Rattle.promises.proofs.Packets.Exactly.{step-case}
 use Rattle.promises.proofs.Run.Faults.{abort-faults}
@@ -38,6 +41,17 @@ accepted-exactly F s = accepted F (s .unit) (s .seqs) (s .lists) (s .out) (s .by
 pub code-exactly : (F : Format) → CodeExactly F ours
 unfolding answerOf codeOf
 code-exactly F s = first-exactly (packetRows F (s .unit) (s .seqs) (s .lists) (s .out) (s .bytes))
+
+pub no-other-kind : NoOtherKind ours
+unfolding tablesWrong lentWrong answerOf codeOf packetRows stepRows unitStep checkRows checkOf windowRows windowCode
+no-other-kind kind h =
+    let e = no-kind kind h in
+    record {
+      packet = λ s. simp e;
+      step = λ u seqs lists. simp e;
+      check = λ seqs lists n. simp e;
+      window = λ seqs lists a len. simp e;
+    }
 
 pub powers-on : PowersOn ours
 unfolding powerOn

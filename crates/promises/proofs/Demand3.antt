@@ -1,5 +1,5 @@
 -- Demand 3: the unit keeps what the table check tells. Assumes nothing.
-use Prim.Native.Nat.{ℕ, _≤_, _<_}
+use Prim.Native.Nat.{ℕ, _≤_}
 use native.Mathlib.Omega.{arith}
 use mathlib.Core.Path.{_≡_, refl, sym, ap, _∙_, subst, subst₂}
 use mathlib.Core.Bool.{true, true≢false}
@@ -7,7 +7,6 @@ use mathlib.Core.List.{List}
 use mathlib.Core.Logic.{inl, inr}
 use lib.ListN.{length}
 use Rattle.memory.specs.declared.Format.{Format}
-use Rattle.memory.specs.Memory.{Fair}
 use Rattle.sequence.specs.Starts.{among}
 use Rattle.sequence.specs.Env.{envOf}
 use Rattle.runner.specs.declared.Runner.{Runner}
@@ -18,8 +17,10 @@ use Rattle.unit.specs.declared.Outcome.{Outcome}
 use Rattle.promises.specs.Runs.{AtDoor, afterSteps}
 use Rattle.promises.specs.Positions.{NonePast}
 use Rattle.promises.specs.Kept.{IsPassed}
+use Rattle.promises.specs.Formats.{Fills}
 use Rattle.promises.specs.Library.{ours}
 use Rattle.promises.specs.Demand3.{World, Action, packet, after, afterAll, outcomes, Reached, selecting, starting, AboutToEnter, NeverCalledBack, lastOf, Calling, Chain, Lists, eventsOf, exposedPositions, Works, FirstThen, ComesBack, AbortsAt, RunsAsTold, KeepsPassed, KeepsFaulted, Demand3, Passed, Faulted, Again, Returning}
+use Rattle.promises.proofs.Formats.{fair-in}
 use Rattle.promises.proofs.Run.Events.{back-so, fault-so, passed-so}
 use Rattle.promises.proofs.Chain.Chains.{chainEnd, chainIn, check-is}
 use Rattle.promises.proofs.Chain.Laps.{listed-passes}
@@ -31,14 +32,14 @@ use Rattle.promises.proofs.Packets.Starts.{selects, starts}
 use Rattle.promises.proofs.Packets.Between.{Over, Went, between, in-reach}
 use Rattle.promises.proofs.Chain.AsTold.{as-told, aborts, returns-at}
 
-module _ {F : Format} (fair : Fair F) (room : 4 < F .size) where
+module _ {F : Format} (full : Fills F) where
   -- ── the check, part by part
   module _ (n : ℕ) (s : World F) (r : Reached ours s) (h : n ≤ F .last) where
     abbrev chain : Told
     chain = chainIn (envOf F (s .lists)) (s .seqs) n
 
     check-chain : checkOf F (s .seqs) (s .lists) n ≡ chain
-    check-chain = check-is F (s .seqs) (s .lists) n (tables-right (steady fair room r)) h
+    check-chain = check-is F (s .seqs) (s .lists) n (tables-right (steady full r)) h
 
     check-names : ours .checks F (s .seqs) (s .lists) n .names ≡ chain .names
     check-names = ap (λ (t : Told). t .names) check-chain
@@ -57,18 +58,18 @@ module _ {F : Format} (fair : Fair F) (room : 4 < F .size) where
 
   -- ── what is done to a unit that is about to enter sequence n
   went : (n : ℕ) (s : World F) → AboutToEnter ours n s → (acts : List Action) → NeverCalledBack ours acts s → Went (s .seqs) (s .lists) acts s
-  went n s g acts x = between (s .seqs) (s .lists) acts s (steady fair room (g .reached)) (g .auto) x (inl (refl, refl))
+  went n s g acts x = between (s .seqs) (s .lists) acts s (steady full (g .reached)) (g .auto) x (inl (refl, refl))
 
   pub passed : Passed F ours
   passed n s g y acts x =
       let seen = went n s g acts x .shows in
       subst₂ (λ (t : Told) (os : List Outcome). RunsAsTold F (s .seqs) t os) (sym (check-known n s (g .reached) (g .known))) (sym seen)
-      (as-told F (s .lists) fair (s .seqs) n (s .unit .runner .mirror) (s .unit .runner) (g .known) (g .door) (subst IsPassed (check-ending n s (g .reached) (g .known)) (passed-so (ours .checks F (s .seqs) (s .lists) n .ending) y)) (stepsIn acts)
-      (subst (λ (os : List Outcome). NonePast 2400 (exposedPositions (eventsOf os))) seen (in-reach acts s (steady fair room (g .reached)))))
+      (as-told F (s .lists) (fair-in full) (s .seqs) n (s .unit .runner .mirror) (s .unit .runner) (g .known) (g .door) (subst IsPassed (check-ending n s (g .reached) (g .known)) (passed-so (ours .checks F (s .seqs) (s .lists) n .ending) y)) (stepsIn acts)
+      (subst (λ (os : List Outcome). NonePast 2400 (exposedPositions (eventsOf os))) seen (in-reach acts s (steady full (g .reached)))))
 
   pub faulted : Faulted F ours
   faulted n s g code q p y =
-      let (k, f) = aborts F (s .lists) fair (s .seqs) n (s .unit .runner .mirror) (s .unit .runner) (g .known) (g .door) code q p _ (sym (check-ending n s (g .reached) (g .known)) ∙ fault-so y) in
+      let (k, f) = aborts F (s .lists) (fair-in full) (s .seqs) n (s .unit .runner .mirror) (s .unit .runner) (g .known) (g .door) code q p _ (sym (check-ending n s (g .reached) (g .known)) ∙ fault-so y) in
       (k, λ acts x. subst (FirstThen k Works (AbortsAt code q p)) (sym (went n s g acts x .shows)) (f (stepsIn acts)))
 
   pub lists-so : (n : ℕ) (s : World F) → Reached ours s → n ≤ F .last → Lists F (s .seqs) (s .lists) n (ours .checks F (s .seqs) (s .lists) n)
@@ -78,8 +79,8 @@ module _ {F : Format} (fair : Fair F) (room : 4 < F .size) where
   demand3 w r m n h out out′ space space′ time time′ =
       let v = after ours (packet out time (selecting n)) w in
       let s = after ours (packet out′ time′ starting) v in
-      let (code, selected, vs, vl) = selects fair room w r m n h out space time in
-      let (code′, enters, ss, sl) = starts fair room n v selected out′ space′ time′ in (
+      let (code, selected, vs, vl) = selects full w r m n h out space time in
+      let (code′, enters, ss, sl) = starts full n v selected out′ space′ time′ in (
         code,
         code′,
         lists-so n w r h,
@@ -105,7 +106,7 @@ module _ {F : Format} (fair : Fair F) (room : 4 < F .size) where
 
     pub next : (m : ℕ) × Next m
     next =
-        let (u, known, listed, called, door) = returns-at F (s .lists) fair (s .seqs) n (r .mirror) r (g .known) (g .door) back in
+        let (u, known, listed, called, door) = returns-at F (s .lists) (fair-in full) (s .seqs) n (r .mirror) r (g .known) (g .door) back in
         let names = sym (check-names n s (g .reached) (g .known)) in
         (u, (known, subst (λ (ns : List ℕ). among u ns ≡ true) names listed, subst (λ (ns : List ℕ). Calling F (s .seqs) (lastOf 0 ns) u) names called, door))
 

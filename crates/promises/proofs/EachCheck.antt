@@ -25,8 +25,9 @@ use Rattle.promises.specs.Library.{ours}
 use Rattle.promises.specs.Kept.{IsPassed}
 use Rattle.promises.specs.Demand3.{Lists}
 use Rattle.promises.specs.EachCheck.{Given, CheckSixteen, CheckSeven, Passes, Breaks, FaultIn, RulesApplied, CallsFollowed, stepsOfSequence, exposuresOfSequence, sumOver, TotalsTold}
+use Rattle.promises.proofs.Formats.{fills-exactly}
 use Rattle.promises.proofs.Run.Events.{fault-so, passed-so}
-use Rattle.promises.proofs.Chain.Listing.{among-case, follow-all}
+use Rattle.survey.proofs.Listing.{among-case, follow-all}
 use Rattle.promises.proofs.Chain.Chains.{check-is}
 use Rattle.promises.proofs.Text.Walks.{passed-read}
 use Rattle.promises.proofs.Chain.Names.{chain-lists}
@@ -37,13 +38,13 @@ use Rattle.promises.proofs.Text.Counting.{counted-steps, counted-exposu
 pub check-sixteen : CheckSixteen ours
 unfolding checkOf checkRows
 check-sixteen F seqs lists n x =
-    by-test (tablesWrong seqs lists)
+    by-test (tablesWrong F seqs lists)
     (λ e. rw e)
-    (λ e. absurd (x (sizes seqs lists e)))
+    (λ e. let (f, p, q) = sizes F seqs lists e in absurd (x (fills-exactly F .0 f, p, q)))
 
 pub check-seven : CheckSeven ours
 unfolding checkOf checkRows
-check-seven F seqs lists n s l h = rw (right-sizes seqs lists s l, lt-ltb (F .last) n h)
+check-seven F seqs lists n f s l h = rw (right-sizes F seqs lists (fills-exactly F .1 f) s l, lt-ltb (F .last) n h)
 
 -- ── over the chain
 module _ (F : Format) (lists seqs : List ℕ) where
@@ -106,7 +107,7 @@ module _ (F : Format) (lists seqs : List ℕ) where
 
   verdict : (n : ℕ) → Given F seqs lists n → Verdict (ours .checks F seqs lists n)
   unfolding chainOf
-  verdict n g = subst Verdict (sym (check-is F seqs lists n (right-sizes seqs lists (g .sequences) (g .lineLists)) (g .number)))
+  verdict n g = subst Verdict (sym (check-is F seqs lists n (right-sizes F seqs lists (fills-exactly F .1 (g .format)) (g .sequences) (g .lineLists)) (g .number)))
       (follow-all found (λ before t. Verdict t) (λ before. none-listed) (λ before m go e ih. onward-verdict m go ih (found m) refl) (suc (F .last)) [] n)
 
 pub rules-applied : RulesApplied ours
@@ -114,7 +115,7 @@ rules-applied F seqs lists n g = let v = verdict F lists seqs n g in (v .each, �
 
 pub calls-followed : CallsFollowed ours
 calls-followed F seqs lists n g =
-    subst (Lists F seqs lists n) (sym (check-is F seqs lists n (right-sizes seqs lists (g .sequences) (g .lineLists)) (g .number))) (chain-lists F lists seqs n (g .number))
+    subst (Lists F seqs lists n) (sym (check-is F seqs lists n (right-sizes F seqs lists (fills-exactly F .1 (g .format)) (g .sequences) (g .lineLists)) (g .number))) (chain-lists F lists seqs n (g .number))
 
 pub totals-told : TotalsTold ours
 totals-told F seqs lists n g y = verdict F lists seqs n g .totals (passed-so (ours .checks F seqs lists n .ending) y)

@@ -10,12 +10,12 @@ use lib.ListN.{length}
 use borrow.Author.Tests.{leb-true, leb-false}
 use Rattle.octets.proofs.Bools.{by-test}
 use Rattle.memory.specs.declared.Format.{Format}
-use Rattle.memory.specs.Memory.{Fair}
 use Rattle.runner.specs.declared.Event.{Event}
 use Rattle.survey.specs.Turns.{turns}
 use Rattle.survey.specs.Chain.{Told}
 use Rattle.survey.specs.Report.{endingShown}
 use Rattle.unit.specs.declared.Outcome.{Outcome}
+use Rattle.promises.specs.Formats.{Fills}
 use Rattle.promises.specs.Library.{ours}
 use Rattle.promises.specs.Demand3.{World, Action, afterAll, outcomes, lastOf, Calling, chainPlan, AboutToEnter, NeverCalledBack, eventsOf, fromEach, landmark, Works, All, FirstThen, ComesBack, EndsOrReturns, GoesOn, lapsPlan, EveryLap}
 use Rattle.promises.proofs.Chain.Unique.{chain-first, call-same, last-part}
@@ -23,7 +23,7 @@ use Rattle.promises.proofs.Chain.Plans.{each-append}
 use Rattle.promises.proofs.Packets.Actions.{stepsIn, steps, steps-append, Cut, cut, events-append, all-append, steps-taken, steps-seen, seen-append, never-parts, never-append, stepped-on}
 use Rattle.promises.proofs.Demand3.{passed, lists-so, Next, next, again, enters-next}
 
-module _ {F : Format} (fair : Fair F) (room : 4 < F .size) where
+module _ {F : Format} (fits : Fills F) where
   abbrev told : ℕ → World F → Told
   told n s = ours .checks F (s .seqs) (s .lists) n
 
@@ -38,8 +38,8 @@ module _ {F : Format} (fair : Fair F) (room : 4 < F .size) where
       where
         go : (k : ℕ) → told n s .steps ≡ k → 0 < k
         go zero e =
-            let (rest, names) = chain-first F (s .seqs) (s .lists) (lists-so fair room n s (g .reached) (g .known) .chain) in
-            let none : [] ≡ chainPlan F (s .seqs) (n ∷ rest) = passed fair room n s g passes [] tt .planned (sym e) ∙ ap (chainPlan F (s .seqs)) names in
+            let (rest, names) = chain-first F (s .seqs) (s .lists) (lists-so fits n s (g .reached) (g .known) .chain) in
+            let none : [] ≡ chainPlan F (s .seqs) (n ∷ rest) = passed fits n s g passes [] tt .planned (sym e) ∙ ap (chainPlan F (s .seqs)) names in
             let z : _≡_ {A = ℕ} 0 1 = cc in absurd (omega arith)
         go (suc k) e = omega arith
 
@@ -53,12 +53,12 @@ module _ {F : Format} (fair : Fair F) (room : 4 < F .size) where
       pub same : told m (afterAll ours (parts .first) s) ≡ told m s
       pub table : afterAll ours (parts .first) s .seqs ≡ s .seqs
 
-    lap : (m : ℕ) → Next fair room n s g y m → (acts : List Action) → NeverCalledBack ours acts s → told n s .steps ≤ stepsIn acts → Lap m acts
+    lap : (m : ℕ) → Next fits n s g y m → (acts : List Action) → NeverCalledBack ours acts s → told n s .steps ≤ stepsIn acts → Lap m acts
     lap m k acts x h =
         let c = cut (told n s .steps) acts h in
         let (x₁, x₂) = never-parts ours (c .first) (c .rest) s (subst (λ (xs : List Action). NeverCalledBack ours xs s) (sym (c .whole)) x) in
         let full = steps-taken ours (c .first) s ∙ c .taken in
-        let (enters, seqs, lists) = enters-next fair room n s g y m k (c .first) x₁ full in
+        let (enters, seqs, lists) = enters-next fits n s g y m k (c .first) x₁ full in
         record { parts = c; never = x₁; full = full; onward = x₂; enters = enters; same = ap₂ (λ (q l : List ℕ). ours .checks F q l m) seqs lists; table = seqs }
 
   -- ── every step works: those of a lap, and those of the laps after it
@@ -72,7 +72,7 @@ module _ {F : Format} (fair : Fair F) (room : 4 < F .size) where
   lap-works n s g y acts x h =
       let t = told n s in
       let e = steps-taken ours acts s in
-      first-all (t .steps) Works (GoesOn F (s .seqs) (t .ending) (t .names)) (outcomes ours acts s) (passed fair room n s g (passes n s g y) acts x .steps) (omega arith)
+      first-all (t .steps) Works (GoesOn F (s .seqs) (t .ending) (t .names)) (outcomes ours acts s) (passed fits n s g (passes n s g y) acts x .steps) (omega arith)
 
   all-work : (most n : ℕ) (s : World F) → AboutToEnter ours n s → ComesBack (told n s .ending) → (acts : List Action) → NeverCalledBack ours acts s → stepsIn acts ≤ most
       → All Works (outcomes ours acts s)
@@ -83,10 +83,10 @@ module _ {F : Format} (fair : Fair F) (room : 4 < F .size) where
       (λ b.
       let less = leb-false (stepsIn acts) (told n s .steps) b in
       let some = some-steps n s g y in
-      let (m, k) = next fair room n s g y in
+      let (m, k) = next fits n s g y in
       let l = lap n s g y m k acts x (omega arith) in
       let c = l .parts in
-      let returns : ComesBack (told m (afterAll ours (c .first) s) .ending) = ap (λ (t : Told). endingShown (t .ending)) (l .same) ∙ again fair room n s g y m k .returns in
+      let returns : ComesBack (told m (afterAll ours (c .first) s) .ending) = ap (λ (t : Told). endingShown (t .ending)) (l .same) ∙ again fits n s g y m k .returns in
       let fewer : stepsIn (c .rest) ≤ most = (let e = c .left in omega arith) in
       let taken = c .taken in
       subst (All Works) (sym (seen-append ours (c .first) (c .rest) s) ∙ ap (λ (xs : List Action). outcomes ours xs s) (c .whole))
@@ -113,7 +113,7 @@ module _ {F : Format} (fair : Fair F) (room : 4 < F .size) where
   lap-seen n s g y m acts l =
       let c = l .parts in
       landmarks-append (c .first) (c .rest) acts s (c .whole)
-      ∙ ap (λ (es : List Event). es ++ landmarks (outcomes ours (c .rest) (afterAll ours (c .first) s))) (passed fair room n s g (passes n s g y) (c .first) (l .never) .planned (l .full))
+      ∙ ap (λ (es : List Event). es ++ landmarks (outcomes ours (c .rest) (afterAll ours (c .first) s))) (passed fits n s g (passes n s g y) (c .first) (l .never) .planned (l .full))
 
   none-seen : (os : List Outcome) → length os ≡ 0 → landmarks os ≡ []
   none-seen [] e = refl
@@ -128,7 +128,7 @@ module _ {F : Format} (fair : Fair F) (room : 4 < F .size) where
       let ends : ComesBack (told m s .ending) = ap (λ (t : Told). endingShown (t .ending)) w ∙ y in
       let many : told m s .steps ≡ a .steps = ap (λ (t : Told). t .steps) w in
       let count = suc-mul k (a .steps) in
-      let (u, v) = next fair room m s g ends in
+      let (u, v) = next fits m s g ends in
       let here : Calling F (s .seqs) (lastOf 0 (told m s .names)) m = subst₂ (λ (z : List ℕ) (t : Told). Calling F z (lastOf 0 (t .names)) m) (sym q) (sym w) b in
       let back : u ≡ m = call-same (v .2) here in
       let l = lap m s g ends u v acts x (omega arith) in
@@ -140,15 +140,15 @@ module _ {F : Format} (fair : Fair F) (room : 4 < F .size) where
       (laps-from seqs a m k (suc j) (afterAll ours (c .first) s) (subst (λ (z : ℕ). AboutToEnter ours z (afterAll ours (c .first) s)) back (l .enters)) (l .table ∙ q)
       (subst (λ (z : ℕ). told z (afterAll ours (c .first) s) ≡ told z s) back (l .same) ∙ w) y b (c .rest) (l .onward) left)
 
-  module _ (n : ℕ) (s : World F) (g : AboutToEnter ours n s) (y : ComesBack (told n s .ending)) (m : ℕ) (k : Next fair room n s g y m) where
+  module _ (n : ℕ) (s : World F) (g : AboutToEnter ours n s) (y : ComesBack (told n s .ending)) (m : ℕ) (k : Next fits n s g y m) where
     abbrev part : Told
     part = told m s
 
     -- the part that comes again returns to where it began
     to-itself : Calling F (s .seqs) (lastOf 0 (part .names)) m
     to-itself =
-        let r = again fair room n s g y m k in
-        let (rest, names) = chain-first F (s .seqs) (s .lists) (lists-so fair room m s (g .reached) (k .0) .chain) in
+        let r = again fits n s g y m k in
+        let (rest, names) = chain-first F (s .seqs) (s .lists) (lists-so fits m s (g .reached) (k .0) .chain) in
         let same : lastOf 0 (told n s .names) ≡ lastOf 0 (part .names) =
         ap (lastOf 0) (r .part ∙ ap (λ (ns : List ℕ). r .once ++ ns) names) ∙ last-part 0 0 (r .once) rest m ∙ ap (lastOf 0) (sym names) in
         subst (λ (z : ℕ). Calling F (s .seqs) z m) same (r .called)
@@ -162,7 +162,7 @@ module _ {F : Format} (fair : Fair F) (room : 4 < F .size) where
         let left : stepsIn (c .rest) ≡ laps * part .steps = (let d = c .left in omega arith) in
         lap-seen n s g y m acts l
         ∙ ap (λ (es : List Event). chainPlan F (s .seqs) (told n s .names) ++ es)
-        (laps-from (s .seqs) part m laps 0 (afterAll ours (c .first) s) (l .enters) (l .table) (l .same) (again fair room n s g y m k .returns) to-itself (c .rest) (l .onward) left)
+        (laps-from (s .seqs) part m laps 0 (afterAll ours (c .first) s) (l .enters) (l .table) (l .same) (again fits n s g y m k .returns) to-itself (c .rest) (l .onward) left)
 
     -- stepped on to the end of a lap
     begins : (laps : ℕ) (acts : List Action) → NeverCalledBack ours acts s → length (outcomes ours acts s) ≤ told n s .steps + laps * part .steps
@@ -182,9 +182,9 @@ module _ {F : Format} (fair : Fair F) (room : 4 < F .size) where
 
   pub every-lap : EveryLap F ours
   every-lap n s g y =
-      let (m, k) = next fair room n s g y in (
+      let (m, k) = next fits n s g y in (
         m,
-        again fair room n s g y m k,
+        again fits n s g y m k,
         λ acts x.
             record {
               works = all-work (stepsIn acts) n s g y acts x (omega arith);

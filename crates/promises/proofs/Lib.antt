@@ -1,4 +1,5 @@
 -- The proofs, from the ground up. What follows from what:
+--   Formats        a format that fills the table, in words and as it is tested
 --   Text, Run      one sequence: what the check finds in its text is what the interpreter then does
 --   Chain          so of sequences one after another, as the names are listed
 --   Range          every step and packet keeps a unit in range, so that no step of a state reached is denied
@@ -9,10 +10,11 @@
 --   Demand3        from Chain, Range and Packets: the unit keeps what the check tells; EveryLap, for good
 --   Decided        from Demand3: the check can tell nothing else
 --   Refuted        from Decided, and by computing over the sample tables (sequence/proofs): the wrong libraries that document 01 names keep no such demand
---   Flight         the flight unit's format is one of those that Demand3, EveryLap and Decided speak of
+--   EveryFormat    Demand3, EveryLap and Decided of every format that fills the table; the two kinds' do
 --   Flags          by computing: the answer for every science byte over every set of marks
 --   Samples        by computing
 --   OneAnswer      from the contracts: one answer for each call; TheCode: the demands, for the code
+pub mod Formats
 pub mod Text
 pub mod Run
 pub mod Chain
@@ -26,7 +28,7 @@ pub mod Sentences
 pub mod Demand3
 pub mod EveryLap
 pub mod Decided
-pub mod Flight
+pub mod EveryFormat
 pub mod Flags
 pub mod Samples
 pub mod Refuted

@@ -11,7 +11,7 @@ use Rattle.promises.specs.OneAnswer.{
   OneOctetsPair,
   OneOctetsEither,
   OneOctetsBoth,
-  OneMemoryFormatFlight,
+  OneMemoryFormatOf,
   OneMemoryPlaceOf,
   OneMemoryPlaceNumber,
   OneMemoryAddressOf,
@@ -90,6 +90,8 @@ use Rattle.promises.specs.OneAnswer.{
   OneLineIsHex,
   OneLineNumber,
   OneLineBegins,
+  OneLineIsWord,
+  OneLineKindNamed,
   OneLineReadLine,
   OneStateUnitOf,
   OneStateSaveAnswer,
@@ -130,8 +132,8 @@ pub one-result-octets-both : OneOctetsBoth
 one-result-octets-both κs a r r′ e e′ p q = p ∙ sym q
 
 -- ── memory
-pub one-result-memory-Format-flight : OneMemoryFormatFlight
-one-result-memory-Format-flight κs a r r′ e e′ p q = p ∙ sym q
+pub one-result-memory-Format-of : OneMemoryFormatOf
+one-result-memory-Format-of κs a r r′ e e′ p q = p ∙ sym q
 
 pub one-result-memory-Place-of : OneMemoryPlaceOf
 one-result-memory-Place-of κs a r r′ e e′ p q = p ∙ sym q
@@ -373,6 +375,12 @@ one-result-line-number κs a r r′ e e′ p q = p ∙ sym q
 
 pub one-result-line-begins : OneLineBegins
 one-result-line-begins κs a r r′ e e′ p q = p ∙ sym q
+
+pub one-result-line-is-word : OneLineIsWord
+one-result-line-is-word κs a r r′ e e′ p q = p ∙ sym q
+
+pub one-result-line-kind-named : OneLineKindNamed
+one-result-line-kind-named κs a r r′ e e′ p q = p ∙ sym q
 
 pub one-result-line-read-line : OneLineReadLine
 one-result-line-read-line κs a r r′ e e′ p q = λ i. ((p .0 ∙ sym (q .0)) i, (p .1 ∙ sym (q .1)) i)

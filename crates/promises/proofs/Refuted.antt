@@ -10,7 +10,7 @@ use lib.Dec.{eqb}
 use lib.ListN.{length, getD}
 use Rattle.octets.specs.Bytes.{byteAt, tripleAt, xorOn}
 use Rattle.memory.specs.declared.Format.{Format}
-use Rattle.memory.specs.Memory.{flight, tablesWrong, rangeOf, rangeAt}
+use Rattle.memory.specs.Memory.{flight, fills, tablesWrong, rangeOf, rangeAt}
 use Rattle.sequence.specs.Text.{fault, limit, lengthGood, xorGood, headerRows, headerOf, sizeOf, decoded, noneThere, commandAt, sizeAt}
 use Rattle.sequence.specs.Starts.{starts, startsOf, among, exposesBetween, firstExposure, targetGood}
 use Rattle.sequence.specs.Raster.{rasterAt, flagsGood, markMissing, somePast}
@@ -44,7 +44,7 @@ use Rattle.promises.specs.EachStep.{EnterStep}
 use Rattle.promises.specs.Demand3.{World, world, step, packet, after, outcomes, Reached, powered, acted, modeOf, selecting, starting, callingBack, exposedPositions, Works, FirstThen, GoesOn, EndsOrReturns, KeepsPassed, Demand3}
 use Rattle.promises.specs.Refuted.{RefusingFails, WritingNothingFails, IdlingFails, UnitIdlingFails, FinishingAtFirstFails, UnitFinishingFails, FinishingAtCallFails, withCheck, withSteps, PassingAllFails, FaultingAllFails, InventedStepsFail, InventedExposuresFail, IdleUnitFails, refusesAll, writesNothing, alwaysIdle, finishesAtFirst, atCall, finishesAtCall, passesAll, faultsAll, inventsSteps, inventsExposures, mirrorEachExposure, repeatAtLast, faultyRasterPassed, dropsReasons, uplinkWhileRunning, Refuted, MisreadRefuted}
 use Rattle.promises.proofs.Run.Events.{fault-so, passed-so}
-use Rattle.promises.proofs.Chain.Chains.{fair-flight}
+use Rattle.promises.proofs.EveryFormat.{flight-fills}
 use Rattle.promises.proofs.Packets.Actions.{steps, stepped-on}
 use Rattle.promises.proofs.Packets.Needs.{obeyed-exactly}
 use Rattle.promises.proofs.Decided.{check-decided}
@@ -69,7 +69,7 @@ abbrev sent : List ℕ → Sent flight
 sent bytes = record { unit = powerOn; time = 0; seqs = seqs []; lists = lists []; out = seqs []; bytes = bytes }
 
 lent : (bytes : List ℕ) → Lent (sent bytes)
-lent bytes = record { sequences = refl; lineLists = refl; output = omega arith }
+lent bytes = record { format = flight-fills; sequences = refl; lineLists = refl; output = omega arith }
 
 in-range : InRange flight powerOn
 unfolding powerOn
@@ -90,7 +90,7 @@ in-range =
     }
 
 pub refusing-fails : RefusingFails
-unfolding tablesWrong powerOn runsWrong rangeTests outOfRange telecommandOf ownRows lentWrong packetRows
+unfolding fills tablesWrong powerOn runsWrong rangeTests outOfRange telecommandOf ownRows lentWrong packetRows
 refusing-fails L x =
     let p : List ℕ = 0x01 ∷ [] in
     let some = x (sent p) in (
@@ -145,7 +145,7 @@ unit =
 -- it enters, and runs on
 unit-enters : (L : Library) → StepTakes flight L → EnterStep L
     → Showing (L .steps flight unit (seqs terminates) (lists []) .outcome) (enters 0) × (L .steps flight unit (seqs terminates) (lists []) .unit .runner .running ≡ true)
-unfolding tablesWrong headerRows lengthGood xorGood limit xorOn stepRows runsWrong rangeTests outOfRange
+unfolding fills tablesWrong headerRows lengthGood xorGood limit xorOn stepRows runsWrong rangeTests outOfRange
 unit-enters L takes entering =
     let e = entering (envOf flight (lists [])) (seqs terminates) (runner 0 true) refl refl (refl, (refl, (refl, tt))) in
     let (sees, keeps, _) = takes unit (seqs terminates) (lists []) (refl, (refl, tt)) in
@@ -198,7 +198,7 @@ record Computed (sequence : List ℕ) (t : Told) : Type 0 where
   tells-so : tells ours sequence [] ≡ t
 
 computed : Computed [] (told (0 ∷ []) (Faults 0 (fault 2 0) None) 0 0) × Computed terminates (told (0 ∷ []) Finishes 2 0)
-unfolding xorOn tablesWrong limit lengthGood xorGood headerRows headerOf sizeOf decoded noneThere commandAt sizeAt closeRows judged judge walked walk checkOne onward follow chainOf among checkRows checkOf powerOn runsWrong rangeTests outOfRange moded selected telecommandOf ownRows lentWrong packetRows codeOf effect obeyedUnit unitAfter answerOf seqsAfter listsAfter
+unfolding xorOn fills tablesWrong limit lengthGood xorGood headerRows headerOf sizeOf decoded noneThere commandAt sizeAt closeRows judged judge walked walk checkOne onward follow chainOf among checkRows checkOf powerOn runsWrong rangeTests outOfRange moded selected telecommandOf ownRows lentWrong packetRows codeOf effect obeyedUnit unitAfter answerOf seqsAfter listsAfter
 computed = (record { mode = refl; tells-so = refl }, record { mode = refl; tells-so = refl })
 
 -- a check that keeps the demand tells the same of them
@@ -207,10 +207,10 @@ module _ (f : Format → List ℕ → List ℕ → ℕ → Told) (d : Demand3 fl
   its sequence = f flight (manual ours sequence [] .seqs) (manual ours sequence [] .lists) 0
 
   at-zeros : its [] ≡ told (0 ∷ []) (Faults 0 (fault 2 0) None) 0 0
-  at-zeros = check-decided fair-flight (omega arith) f d (manual ours [] []) (in-manual ours [] [] refl refl) (computed .0 .mode) 0 (omega arith) ∙ computed .0 .tells-so
+  at-zeros = check-decided flight-fills f d (manual ours [] []) (in-manual ours [] [] refl refl) (computed .0 .mode) 0 (omega arith) ∙ computed .0 .tells-so
 
   at-ends : its terminates ≡ tells ours terminates []
-  at-ends = check-decided fair-flight (omega arith) f d (manual ours terminates []) (in-manual ours terminates [] refl refl) (computed .1 .mode) 0 (omega arith)
+  at-ends = check-decided flight-fills f d (manual ours terminates []) (in-manual ours terminates [] refl refl) (computed .1 .mode) 0 (omega arith)
 
 pub passing-all-fails : PassingAllFails
 passing-all-fails f x d = passed-so (Faults 0 (fault 2 0) None) (subst (λ (t : Told). EndsOrReturns (t .ending)) (at-zeros f d) (x (manual ours [] [] .seqs) (manual ours [] [] .lists) 0))
@@ -261,7 +261,7 @@ refuted =
 
 -- ── misreadings: the exposure that is misplaced, and where the plan has it
 pub misread-refuted : MisreadRefuted
-unfolding xorOn tablesWrong rangeOf rangeAt limit lengthGood xorGood headerRows headerOf sizeOf decoded noneThere commandAt sizeAt starts startsOf among exposesBetween firstExposure targetGood rasterAt flagsGood markMissing somePast checksumOf marked marksOf listCard pathRows rasterRows runRows exposeRows loopRows closeRows judged judge aborted entered begun advances exposed looped ended act stepIn stepOf walked walk checkOne onward follow chainOf checkRows checkOf powerOn runsWrong rangeTests outOfRange moded selected telecommandOf ownRows lentWrong packetRows codeOf effect obeyedUnit refusedUnit unitAfter answerOf seqsAfter listsAfter stepRows withStep unitStep
+unfolding xorOn fills tablesWrong rangeOf rangeAt limit lengthGood xorGood headerRows headerOf sizeOf decoded noneThere commandAt sizeAt starts startsOf among exposesBetween firstExposure targetGood rasterAt flagsGood markMissing somePast checksumOf marked marksOf listCard pathRows rasterRows runRows exposeRows loopRows closeRows judged judge aborted entered begun advances exposed looped ended act stepIn stepOf walked walk checkOne onward follow chainOf checkRows checkOf powerOn runsWrong rangeTests outOfRange moded selected telecommandOf ownRows lentWrong packetRows codeOf effect obeyedUnit refusedUnit unitAfter answerOf seqsAfter listsAfter stepRows withStep unitStep
 misread-refuted =
     record {
       mirror-each-exposure =
@@ -281,7 +281,7 @@ misread-refuted =
           false≢true (r .never .1 .0);
       reason-dropped =
           λ d.
-          let same = check-decided fair-flight (omega arith) (dropsReasons .checks) d (manual ours sets []) (in-manual ours sets [] refl refl) refl 0 (omega arith) in
+          let same = check-decided flight-fills (dropsReasons .checks) d (manual ours sets []) (in-manual ours sets [] refl refl) refl 0 (omega arith) in
           let z : _≡_ {A = ℕ} 0 1 = ap (λ (t : Told). reasonShown (reasonOf (t .ending)) .number) same in omega arith;
       uplink-while-running =
           λ d.

@@ -7,7 +7,7 @@ use mathlib.Core.List.{List, [], _∷_, _++_}
 use lib.ListN.{set, replicate}
 use Rattle.octets.specs.Bytes.{xorOn}
 use Rattle.octets.proofs.Samples.{Sample, sample, allRight}
-use Rattle.memory.specs.Memory.{flight, tablesWrong, rangeOf, rangeAt}
+use Rattle.memory.specs.Memory.{flight, formatOf, fills, tablesWrong, rangeOf, rangeAt}
 use Rattle.sequence.specs.declared.RasterWords.{RasterWords}
 use Rattle.sequence.specs.declared.ReasonNumbers.{ReasonNumbers}
 use Rattle.sequence.specs.Text.{limit, lengthGood, xorGood, headerRows, headerOf, sizeOf, decoded, noneThere, commandAt, sizeAt}
@@ -24,8 +24,9 @@ use Rattle.survey.specs.Chain.{onward, follow, chainOf, checkRows, checkOf}
 use Rattle.survey.specs.Report.{reasonOf, reasonShown}
 use Rattle.survey.proofs.Samples.{toldNumbers}
 use Rattle.status.specs.declared.Log.{Log}
+use Rattle.unit.specs.declared.Unit.{Unit as ControlUnit}
 use Rattle.unit.specs.declared.Answer.{Answer}
-use Rattle.unit.specs.State.{powerOn, runsWrong, rangeTests, outOfRange}
+use Rattle.unit.specs.State.{powerOn, runsWrong, rangeTests, outOfRange, moded, selected}
 use Rattle.telecommand.specs.Packet.{telecommandOf}
 use Rattle.unit.specs.Packet.{ownRows, lentWrong, packetRows, codeOf}
 use Rattle.unit.specs.Status.{statusOf}
@@ -67,8 +68,15 @@ logNumbers l = l .bc1 ∷ l .bc2 ∷ l .bc3 ∷ l .size ∷ []
 abbrev answerNumbers : Answer → List ℕ
 answerNumbers a = a .code ∷ a .size ∷ logNumbers (a .unit .ledger .log)
 
+abbrev sentTo : ControlUnit → ℕ → List ℕ → List ℕ
+sentTo unit kind packet = answerNumbers (answerOf (formatOf kind) unit 0 (seqs []) (lists []) (seqs []) packet)
+
 abbrev sent : List ℕ → List ℕ
-sent packet = answerNumbers (answerOf flight powerOn 0 (seqs []) (lists []) (seqs []) packet)
+sent = sentTo powerOn 0
+
+-- the unit at power-on, taken to MANUAL
+abbrev inManual : ControlUnit
+inManual = moded 2 powerOn
 
 -- the bytes that answer it
 abbrev repliedTo : List ℕ → List ℕ
@@ -153,8 +161,12 @@ samples =
     -- the power-on status, which is not logged: mode 1, one request, byte 17; the rest 0
     ∷ sample (sent (0x01 ∷ [])) (0 ∷ 104 ∷ 0 ∷ 0 ∷ 0 ∷ 0 ∷ [])
     ∷ sample (repliedTo (0x01 ∷ [])) (0x01 ∷ 0x00 ∷ 0x00 ∷ 0x64 ∷ 0x10 ∷ 0x10 ∷ 0x00 ∷ 0x01 ∷ replicate 13 0 ++ (0x22 ∷ replicate 82 0))
+    -- the old unit: a selection of 63 is obeyed, 64 is 7; kind 2 is 16, and nothing is logged
+    ∷ sample (sentTo inManual 1 (0x83 ∷ 63 ∷ [])) (0 ∷ 0 ∷ 0x83 ∷ 63 ∷ 0 ∷ 2 ∷ [])
+    ∷ sample (sentTo inManual 1 (0x83 ∷ 64 ∷ [])) (7 ∷ 0 ∷ 0x83 ∷ 64 ∷ 0 ∷ 2 ∷ [])
+    ∷ sample (sentTo inManual 2 (0x83 ∷ 0 ∷ [])) (16 ∷ 0 ∷ 0 ∷ 0 ∷ 0 ∷ 0 ∷ [])
     ∷ []
 
 pub samples-right : allRight samples ≡ true
-unfolding xorOn tablesWrong rangeOf rangeAt limit lengthGood xorGood headerRows headerOf sizeOf decoded noneThere commandAt sizeAt starts startsOf among exposesBetween firstExposure targetGood rasterAt flagsGood markMissing somePast checksumOf marked marksOf listCard pathRows rasterRows runRows exposeRows loopRows closeRows judged judge aborted entered begun advances exposed looped delayed called ended act stepIn stepOf walked walk checkOne onward follow chainOf checkRows checkOf powerOn runsWrong rangeTests outOfRange telecommandOf ownRows lentWrong packetRows codeOf statusOf effect obeyedUnit reply refusedUnit unitAfter replyOf answerOf sightsOf
+unfolding xorOn fills tablesWrong rangeOf rangeAt limit lengthGood xorGood headerRows headerOf sizeOf decoded noneThere commandAt sizeAt starts startsOf among exposesBetween firstExposure targetGood rasterAt flagsGood markMissing somePast checksumOf marked marksOf listCard pathRows rasterRows runRows exposeRows loopRows closeRows judged judge aborted entered begun advances exposed looped delayed called ended act stepIn stepOf walked walk checkOne onward follow chainOf checkRows checkOf powerOn runsWrong rangeTests outOfRange moded selected telecommandOf ownRows lentWrong packetRows codeOf statusOf effect obeyedUnit reply refusedUnit unitAfter replyOf answerOf sightsOf
 samples-right = refl

@@ -24,12 +24,14 @@ use Rattle.survey.specs.declared.Ending.{Ending}
 use Rattle.survey.specs.declared.Ending.the-variants.{Unlisted, Finishes, Returns, Faults}
 use Rattle.survey.specs.Chain.{Told}
 use Rattle.survey.specs.Report.{endingShown, reasonOf}
+use Rattle.promises.specs.Formats.{Fills}
 use Rattle.promises.specs.Library.{ours}
 use Rattle.promises.specs.Kept.{IsPassed}
 use Rattle.promises.specs.Demand3.{Chain, last-terminates, last-returns, last-faulty, then-called, Differ, Lists, EndsOrReturns, HasFault}
 use Rattle.promises.specs.EachCheck.{Given, rulesAt, isClosing, UpTo, there, next, Passes, Breaks, FaultIn, stepsOfSequence, exposuresOfSequence, sumOver, SentencesDecide}
+use Rattle.promises.proofs.Formats.{fills-exactly}
 use Rattle.promises.proofs.Run.Events.{fault-so}
-use Rattle.promises.proofs.Chain.Listing.{among-first}
+use Rattle.survey.proofs.Listing.{among-first}
 use Rattle.promises.proofs.Chain.Unique.{call-same, no-call, faultAt, no-answer, one-reason, returns-short, same-names}
 use Rattle.promises.proofs.EachCheck.{check-sixteen, check-seven, rules-applied, calls-followed, totals-told}
 
@@ -158,17 +160,18 @@ module _ (F : Format) (lists seqs : List ℕ) where
 
 pub sentences-decide : SentencesDecide
 sentences-decide L sixteen seven rules calls totals F seqs lists n =
-    by-test (tablesWrong seqs lists)
+    by-test (tablesWrong F seqs lists)
     (λ wrong.
-    let not-right : (length seqs ≡ 16384) × (length lists ≡ 7872) → ⊥ = λ (s, l). true≢false (sym wrong ∙ right-sizes seqs lists s l) in
+    let not-right : Fills F × (length seqs ≡ 16384) × (length lists ≡ 7872) → ⊥ = λ (f, s, l). true≢false (sym wrong ∙ right-sizes F seqs lists (fills-exactly F .1 f) s l) in
     sixteen F seqs lists n not-right ∙ sym (check-sixteen F seqs lists n not-right))
     (λ right.
-    let (s, l) = sizes seqs lists right in
+    let (full, s, l) = sizes F seqs lists right in
+    let f = fills-exactly F .0 full in
     by-test (leb n (F .last))
     (λ low.
-    let g : Given F seqs lists n = record { sequences = s; lineLists = l; number = leb-true n (F .last) low } in
+    let g : Given F seqs lists n = record { format = f; sequences = s; lineLists = l; number = leb-true n (F .last) low } in
     let (each, broken) = rules F seqs lists n g in
     let (each′, broken′) = rules-applied F seqs lists n g in
     same-told F lists seqs n (L .checks F seqs lists n) (ours .checks F seqs lists n) (calls F seqs lists n g) (calls-followed F seqs lists n g)
     (record { each = each; broken = broken }) (record { each = each′; broken = broken′ }) (totals F seqs lists n g) (totals-told F seqs lists n g))
-    (λ high. seven F seqs lists n s l (leb-false n (F .last) high) ∙ sym (check-seven F seqs lists n s l (leb-false n (F .last) high))))
+    (λ high. seven F seqs lists n f s l (leb-false n (F .last) high) ∙ sym (check-seven F seqs lists n f s l (leb-false n (F .last) high))))

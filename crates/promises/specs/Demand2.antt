@@ -10,7 +10,7 @@ use lib.ListN.{length, take, drop, replicate}
 use Rattle.octets.specs.Bytes.{byteAt, tripleAt, two, four, halves}
 use Rattle.octets.specs.Rows.{Row, row, NoneHolds, FirstBears}
 use Rattle.memory.specs.declared.Format.{Format}
-use Rattle.memory.specs.Memory.{windowRows}
+use Rattle.memory.specs.Memory.{formatOf, windowRows}
 use Rattle.sequence.specs.declared.Command.{Command}
 use Rattle.sequence.specs.declared.Command.the-variants.{RunRaster, Expose, LoopBack, CallSequence, Terminate, Delay, Nothing, Unknown, Unfit}
 use Rattle.sequence.specs.Text.{headerRows, headerPlace, commandAt}
@@ -37,6 +37,7 @@ use Rattle.unit.specs.Packet.{packetRows}
 use Rattle.status.specs.Status.{orZero}
 use Rattle.unit.specs.Status.{statusOf}
 use Rattle.unit.specs.Step.{stepRows}
+use Rattle.promises.specs.Formats.{Fills}
 use Rattle.promises.specs.Library.{Library}
 use Rattle.promises.specs.Runs.{ShownAs, Showing, idle, aborts, quiet}
 use Rattle.promises.specs.Sent.{Sent, answerTo, code, unitLeft, seqsLeft, listsLeft, outLeft, bc1, bc2, TablesKept, NoAnswer, Logged}
@@ -55,10 +56,22 @@ AcceptedExactly F L = (s : Sent F) → (code L s ≡ 0) ↔ NoneHolds (rowsFor s
 abbrev pub CodeExactly : Format → Library → Type 0
 CodeExactly F L = (s : Sent F) (c : ℕ) → 0 < c → (code L s ≡ c) ↔ FirstBears c (rowsFor s)
 
+-- "An unknown kind is 16", in the place of a wrong table size, wherever tables are lent: to a packet, a step, the check and the window. There are
+-- two kinds, 0 and 1. What 16 leaves as it was is demand 1's.
+pub record Sixteen (L : Library) (F : Format) : Type 0 where
+  pub packet : (s : Sent F) → code L s ≡ 16
+  pub step : (u : ControlUnit) (seqs lists : List ℕ) → L .steps F u seqs lists .outcome ≡ Denied 16
+  pub check : (seqs lists : List ℕ) (n : ℕ) → L .checks F seqs lists n ≡ told [] (Unlisted 16) 0 0
+  pub window : (seqs lists : List ℕ) (a len : ℕ) → L .windowCode F seqs lists a len ≡ 16
+
+abbrev pub NoOtherKind : Library → Type 0
+NoOtherKind L = (kind : ℕ) → 1 < kind → Sixteen L (formatOf kind)
+
 -- ── 2. Packets: when each command is obeyed, in words
 
--- "The caller lends both, 16,384 and 7,872 bytes exactly, and an output of at least 16,384."
+-- "The caller lends both, 16,384 and 7,872 bytes exactly, and an output of at least 16,384." "An unknown kind is 16": it has no format.
 pub record Lent {F : Format} (s : Sent F) : Type 0 where
+  pub format : Fills F
   pub sequences : length (s .seqs) ≡ 16384
   pub lineLists : length (s .lists) ≡ 7872
   pub output : 16384 ≤ length (s .out)
@@ -115,7 +128,7 @@ Wanted Mode s =
     × (s .unit .control .allowed ≡ true)
     × Pair (s .unit .control .mode) (bc2 s)
     × (bc2 s ≡ 3 → s .unit .control .selection ≡ 255 → ⊥)
--- 83: MANUAL, and a number up to the last, 127
+-- 83: MANUAL, and a number up to the last: 127, of the old kind 63
 Wanted {F} Select s = (length (s .bytes) ≡ 2) × (s .unit .control .mode ≡ 2) × (bc2 s ≤ F .last)
 -- E7: nothing runs; "BC2-4 address, BC5 count, data", 1 to 128 of them
 Wanted Uplink s =
@@ -430,21 +443,21 @@ abbrev pub CheckExactly : Library → Type 0
 CheckExactly L = (F : Format) (seqs lists : List ℕ) (n : ℕ) → CheckedBy L F (checkRows F seqs lists n) seqs lists n
 
 -- "Wrong tables give 16, then a bad length or range 7, each with an empty part."
-pub record WindowBy (L : Library) (rows : List Row) (seqs lists : List ℕ) (a len : ℕ) : Type 0 where
-  pub handed : (L .windowCode seqs lists a len ≡ 0) ↔ NoneHolds rows
-  pub refused : (c : ℕ) → 0 < c → (L .windowCode seqs lists a len ≡ c) ↔ FirstBears c rows
-  pub empty : 0 < L .windowCode seqs lists a len → L .windowPart seqs lists a len ≡ []
+pub record WindowBy (L : Library) (F : Format) (rows : List Row) (seqs lists : List ℕ) (a len : ℕ) : Type 0 where
+  pub handed : (L .windowCode F seqs lists a len ≡ 0) ↔ NoneHolds rows
+  pub refused : (c : ℕ) → 0 < c → (L .windowCode F seqs lists a len ≡ c) ↔ FirstBears c rows
+  pub empty : 0 < L .windowCode F seqs lists a len → L .windowPart F seqs lists a len ≡ []
 
 abbrev pub WindowCodeExactly : Library → Type 0
-WindowCodeExactly L = (seqs lists : List ℕ) (a len : ℕ) → WindowBy L (windowRows seqs lists a len) seqs lists a len
+WindowCodeExactly L = (F : Format) (seqs lists : List ℕ) (a len : ℕ) → WindowBy L F (windowRows F seqs lists a len) seqs lists a len
 
--- In words: the part is handed exactly when the tables have the right sizes and the range lies wholly in one of them; it is then that
--- table's own bytes.
+-- In words: the part is handed exactly when the tables have the right sizes and a format, and the range lies wholly in one of them; it is then
+-- that table's own bytes, whatever the format.
 abbrev pub WindowExactly : Library → Type 0
-WindowExactly L = (seqs lists : List ℕ) (a len : ℕ)
-    → (L .windowCode seqs lists a len ≡ 0) ↔ ((length seqs ≡ 16384) × (length lists ≡ 7872) × InOneTable a len)
+WindowExactly L = (F : Format) (seqs lists : List ℕ) (a len : ℕ)
+    → (L .windowCode F seqs lists a len ≡ 0) ↔ (Fills F × (length seqs ≡ 16384) × (length lists ≡ 7872) × InOneTable a len)
 
 abbrev pub WindowShows : Library → Type 0
-WindowShows L = (seqs lists : List ℕ) (a len : ℕ) → L .windowCode seqs lists a len ≡ 0
-    → (InSequences a len → L .windowPart seqs lists a len ≡ part seqs (a - 0x070000) len)
-    × (InLineLists a len → L .windowPart seqs lists a len ≡ part lists (a - 0x074000) len)
+WindowShows L = (F : Format) (seqs lists : List ℕ) (a len : ℕ) → L .windowCode F seqs lists a len ≡ 0
+    → (InSequences a len → L .windowPart F seqs lists a len ≡ part seqs (a - 0x070000) len)
+    × (InLineLists a len → L .windowPart F seqs lists a len ≡ part lists (a - 0x074000) len)

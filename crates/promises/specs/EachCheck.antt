@@ -24,6 +24,7 @@ use Rattle.survey.specs.declared.Ending.{Ending}
 use Rattle.survey.specs.declared.Ending.the-variants.{Unlisted}
 use Rattle.survey.specs.Walk.{count, oneMore}
 use Rattle.survey.specs.Chain.{told}
+use Rattle.promises.specs.Formats.{Fills}
 use Rattle.promises.specs.Library.{Library, ours}
 use Rattle.promises.specs.Demand3.{Lists, EndsOrReturns, HasFault}
 
@@ -31,22 +32,23 @@ use Rattle.promises.specs.Demand3.{Lists, EndsOrReturns, HasFault}
 
 -- What it is given: both tables of the right size, and a sequence number.
 pub record Given (F : Format) (seqs lists : List ℕ) (n : ℕ) : Type 0 where
+  pub format : Fills F
   pub sequences : length seqs ≡ 16384
   pub lineLists : length lists ≡ 7872
   pub number : n ≤ F .last
 
 abbrev pub CheckSixteen : Library → Type 0
-CheckSixteen L = (F : Format) (seqs lists : List ℕ) (n : ℕ) → ((length seqs ≡ 16384) × (length lists ≡ 7872) → ⊥)
+CheckSixteen L = (F : Format) (seqs lists : List ℕ) (n : ℕ) → (Fills F × (length seqs ≡ 16384) × (length lists ≡ 7872) → ⊥)
     → L .checks F seqs lists n ≡ told [] (Unlisted 16) 0 0
 
 abbrev pub CheckSeven : Library → Type 0
-CheckSeven L = (F : Format) (seqs lists : List ℕ) (n : ℕ) → length seqs ≡ 16384 → length lists ≡ 7872 → F .last < n
+CheckSeven L = (F : Format) (seqs lists : List ℕ) (n : ℕ) → Fills F → length seqs ≡ 16384 → length lists ≡ 7872 → F .last < n
     → L .checks F seqs lists n ≡ told [] (Unlisted 7) 0 0
 
 -- ── 2. "It applies these rules in text order to each sequence"
 
 -- The rules for the command at a place, by ordered rows (runner/specs/Judge), where o is the raster that the commands before it leave open. The
--- check has no rounds: it takes a call above 127 as the last round does.
+-- check has no rounds: it takes a call above the last number as the last round does.
 abbrev pub rulesFor : Env → List ℕ → ℕ → Opened → Command → List Row
 rulesFor E text p o RunRaster = runRows (E .cards) text p o
 rulesFor E text p o (Expose time) = exposeRows text time o

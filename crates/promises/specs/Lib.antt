@@ -2,6 +2,7 @@ pub mod Range
 pub mod Runs
 pub mod Positions
 pub mod Kept
+pub mod Formats
 pub mod Library
 pub mod Demand3
 pub mod Flags

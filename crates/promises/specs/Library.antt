@@ -31,9 +31,9 @@ pub record Library : Type 0 where
   pub runs : Env → List ℕ → Runner → Stepped
   -- what the check tells of the chain that begins at a sequence, in tables of a format: its names, how it ends, its steps and its exposures
   pub checks : Format → List ℕ → List ℕ → ℕ → Told
-  -- what the desk is answered that asks both tables for an address and a length: the code, and the part that it is handed
-  pub windowCode : List ℕ → List ℕ → ℕ → ℕ → ℕ
-  pub windowPart : List ℕ → List ℕ → ℕ → ℕ → List ℕ
+  -- what the desk is answered that asks tables of a format for an address and a length: the code, and the part that it is handed
+  pub windowCode : Format → List ℕ → List ℕ → ℕ → ℕ → ℕ
+  pub windowPart : Format → List ℕ → List ℕ → ℕ → ℕ → List ℕ
 
 -- Ours. Each is the definition with which the function's contract is an equation: TheCode says so of each function.
 abbrev pub ours : Library

@@ -82,8 +82,8 @@ abbrev pub OneOctetsBoth : Type 0
 OneOctetsBoth = One Bool octets.both.Kinds.ps octets.both.Kinds.r octets.both.Reads.Learnt (λ κs r e. r)
 
 -- ── memory
-abbrev pub OneMemoryFormatFlight : Type 0
-OneMemoryFormatFlight = One Format memory.Format.flight.Kinds.ps memory.Format.flight.Kinds.r memory.Format.flight.Reads.Learnt (λ κs r e. r)
+abbrev pub OneMemoryFormatOf : Type 0
+OneMemoryFormatOf = One Format memory.Format.of.Kinds.ps memory.Format.of.Kinds.r memory.Format.of.Reads.Learnt (λ κs r e. r)
 
 abbrev pub OneMemoryPlaceOf : Type 0
 OneMemoryPlaceOf = One Placed memory.Place.of.Kinds.ps memory.Place.of.Kinds.r memory.Place.of.Reads.Learnt (λ κs r e. r)
@@ -326,6 +326,12 @@ OneLineNumber = One Numeral line.number.Kinds.ps line.number.Kinds.r line.number
 abbrev pub OneLineBegins : Type 0
 OneLineBegins = One Bool line.begins.Kinds.ps line.begins.Kinds.r line.begins.Reads.Learnt (λ κs r e. r)
 
+abbrev pub OneLineIsWord : Type 0
+OneLineIsWord = One Bool line.is_word.Kinds.ps line.is_word.Kinds.r line.is_word.Reads.Learnt (λ κs r e. r)
+
+abbrev pub OneLineKindNamed : Type 0
+OneLineKindNamed = One ℕ line.kind_named.Kinds.ps line.kind_named.Kinds.r line.kind_named.Reads.Learnt (λ κs r e. r)
+
 abbrev pub OneLineReadLine : Type 0
 OneLineReadLine = One (Line × List ℕ) line.read_line.Kinds.ps line.read_line.Kinds.r line.read_line.Reads.Learnt (λ κs r (_, (bytes, _)). (r, now bytes))
 
@@ -347,10 +353,10 @@ abbrev pub OneKeelKeelPowerOn : Type 0
 OneKeelKeelPowerOn = One (ℕ × List ℕ) keel.keel_power_on.Kinds.ps keel.keel_power_on.Kinds.r keel.keel_power_on.Reads.Learnt (λ κs r e. (r, now (e .0)))
 
 abbrev pub OneKeelKeelPacket : Type 0
-OneKeelKeelPacket = One (ℕ × List ℕ × List ℕ × List ℕ × List ℕ) keel.keel_packet.Kinds.ps keel.keel_packet.Kinds.r keel.keel_packet.Reads.Learnt (λ κs r (state, (seqs, (lists, (out, _)))). (r, now state, now seqs, now lists, now out))
+OneKeelKeelPacket = One (ℕ × List ℕ × List ℕ × List ℕ × List ℕ) keel.keel_packet.Kinds.ps keel.keel_packet.Kinds.r keel.keel_packet.Reads.Learnt (λ κs r (_, (state, (seqs, (lists, (out, _))))). (r, now state, now seqs, now lists, now out))
 
 abbrev pub OneKeelKeelStep : Type 0
-OneKeelKeelStep = One (ℕ × List ℕ) keel.keel_step.Kinds.ps keel.keel_step.Kinds.r keel.keel_step.Reads.Learnt (λ κs r e. (r, now (e .0)))
+OneKeelKeelStep = One (ℕ × List ℕ) keel.keel_step.Kinds.ps keel.keel_step.Kinds.r keel.keel_step.Reads.Learnt (λ κs r (_, (state, _)). (r, now state))
 
 abbrev pub OneKeelKeelCheck : Type 0
-OneKeelKeelCheck = One (ℕ × List ℕ) keel.keel_check.Kinds.ps keel.keel_check.Kinds.r keel.keel_check.Reads.Learnt (λ κs r (_, (_, (_, (report, _)))). (r, now report))
+OneKeelKeelCheck = One (ℕ × List ℕ) keel.keel_check.Kinds.ps keel.keel_check.Kinds.r keel.keel_check.Reads.Learnt (λ κs r (_, (_, (_, (_, (report, _))))). (r, now report))

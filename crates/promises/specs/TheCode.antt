@@ -8,7 +8,7 @@ use contract.Lifetimes.{Lfts}
 use denote.Ref.{now}
 use denote.Triple.Clauses.{AtExit}
 use borrow.Fn.Kinds.{PK, RK, Out, Dens, resT, endedOf}
-use Rattle.memory.specs.Memory.{flight}
+use Rattle.memory.specs.Memory.{formatOf}
 use Rattle.sequence.specs.Env.{envOf}
 use Rattle.runner.proofs as runner
 use Rattle.survey.proofs as survey
@@ -34,14 +34,14 @@ PowerOnIs = Called unit.Unit.power_on.Kinds.ps unit.Unit.power_on.Kinds.r unit.U
 -- `Unit::packet`: its answer, and what it leaves in both tables and in the output.
 abbrev pub PacketIs : Type 0
 PacketIs = Called unit.Unit.packet.Kinds.ps unit.Unit.packet.Kinds.r unit.Unit.packet.Reads.Learnt
-    (λ κs (self, (format, (seqs, (lists, (out, (time, (pkt, _))))))) result (_, (_, (seqs′, (lists′, (out′, _))))).
-    let s : Sent format = record { unit = self; time = time; seqs = now seqs; lists = now lists; out = now out; bytes = now pkt } in
+    (λ κs (self, (kind, (seqs, (lists, (out, (time, (pkt, _))))))) result (_, (_, (seqs′, (lists′, (out′, _))))).
+    let s : Sent (formatOf kind) = record { unit = self; time = time; seqs = now seqs; lists = now lists; out = now out; bytes = now pkt } in
     (result ≡ answerTo ours s) × (now seqs′ ≡ seqsLeft ours s) × (now lists′ ≡ listsLeft ours s) × (now out′ ≡ outLeft ours s))
 
 -- `Unit::step`, and `Runner::step` in it
 abbrev pub StepIs : Type 0
 StepIs = Called unit.Unit.step.Kinds.ps unit.Unit.step.Kinds.r unit.Unit.step.Reads.Learnt
-    (λ κs (self, (format, (seqs, (lists, _)))) result exit. result ≡ ours .steps format self (now seqs) (now lists))
+    (λ κs (self, (kind, (seqs, (lists, _)))) result exit. result ≡ ours .steps (formatOf kind) self (now seqs) (now lists))
 
 abbrev pub RunIs : Type 0
 RunIs = Called runner.Runner.step.Kinds.ps runner.Runner.step.Kinds.r runner.Runner.step.Reads.Learnt
@@ -50,16 +50,16 @@ RunIs = Called runner.Runner.step.Kinds.ps runner.Runner.step.Kinds.r runner.Run
 -- `check`: the report of what the check tells.
 abbrev pub CheckIs : Type 0
 CheckIs = Called survey.check.Kinds.ps survey.check.Kinds.r survey.check.Reads.Learnt
-    (λ κs (seqs, (lists, (number, _))) result exit. result ≡ reportOf (ours .checks flight (now seqs) (now lists) number))
+    (λ κs (kind, (seqs, (lists, (number, _)))) result exit. result ≡ reportOf (ours .checks (formatOf kind) (now seqs) (now lists) number))
 
 -- `window_code` and `window`
 abbrev pub WindowCodeIs : Type 0
 WindowCodeIs = Called unit.window_code.Kinds.ps unit.window_code.Kinds.r unit.window_code.Reads.Learnt
-    (λ κs (seqs, (lists, (address, (len, _)))) result exit. result ≡ ours .windowCode (now seqs) (now lists) address len)
+    (λ κs (kind, (seqs, (lists, (address, (len, _))))) result exit. result ≡ ours .windowCode (formatOf kind) (now seqs) (now lists) address len)
 
 abbrev pub WindowIs : Type 0
 WindowIs = Called unit.window.Kinds.ps unit.window.Kinds.r unit.window.Reads.Learnt
-    (λ κs (seqs, (lists, (address, (len, _)))) result exit. now result ≡ ours .windowPart (now seqs) (now lists) address len)
+    (λ κs (kind, (seqs, (lists, (address, (len, _))))) result exit. now result ≡ ours .windowPart (formatOf kind) (now seqs) (now lists) address len)
 
 -- Two that demand 2 speaks of by their definitions: whether a state is out of range, and the command that BC1 names.
 abbrev pub OutOfRangeIs : Type 0

@@ -159,6 +159,15 @@ module _ (text : List ℕ) (p : ℕ) where
       of-command (Takes text p) text p (inl refl) (inl refl) (inl refl)
       (λ w. each (Takes text p) (byteAt text p) (commandsAt text (p + 1)) (λ k e. inr (subst (λ (n : ℕ). Whole text p (sizeOf n)) e w)))
 
+  -- a command that stands takes as many bytes as its number says
+  pub size-named : (number size op bytes : ℕ) → number ≡ byteAt text p → size ≡ sizeAt text p → (size ≡ 0 → ⊥) → number ≡ op → sizeOf op ≡ bytes → bytes ≡ sizeAt text p
+  unfolding sizeAt sizeOf
+  size-named number size op bytes e f some g h =
+      let P : Command → Type 0 = λ k. (sizeOf (numberOf k) ≡ 0) ⊎ (sizeOf (byteAt text p) ≡ sizeOf (numberOf k)) in
+      let found : P (commandAt text p) =
+      of-command P text p (inl refl) (inl refl) (inl refl) (λ w. each P (byteAt text p) (commandsAt text (p + 1)) (λ k n. inr (ap sizeOf n))) in
+      ⊎-elim (λ z. absurd (some (f ∙ z))) (λ n. sym h ∙ ap sizeOf (sym g ∙ e) ∙ n) found
+
   pub size-inside : 0 < sizeAt text p → (p + sizeAt text p < length text) × (4 ≤ p)
   size-inside h = ⊎-elim (λ e. absurd (omega arith)) (λ w. (omega arith, w .from)) size-whole
 

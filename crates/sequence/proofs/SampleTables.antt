@@ -39,18 +39,24 @@ abbrev pub fields : ℕ → ℕ → ℕ → ℕ → ℕ → ℕ → ℕ → Fiel
 fields high low loops exposures repeats list science =
     record { high = high; low = low; loops = loops; exposures = exposures; repeats = repeats; list = list; science = science }
 
--- a sequence of this length with one raster from there on by 10, so many exposures in its text, and the checksum that goes with it
+-- a raster from there on by 10, so many exposures in its text, with a loop back to this place; and a sequence of this length with one, and the
+-- checksum that goes with it
 abbrev exposes : ℕ → List ℕ → List ℕ
 exposes zero rest = rest
 exposes (suc n) rest = 0x91 ∷ 0x00 ∷ 0x64 ∷ exposes n rest
 
+abbrev rasterTo : Fields → ℕ → ℕ → List ℕ → List ℕ
+rasterTo f shots target rest =
+    0x90 ∷ 0x00 ∷ 0x07 ∷ f .high ∷ f .low ∷ 0x00 ∷ f .loops ∷ 0x00 ∷ 0x00 ∷ 0x00 ∷ 0x00 ∷ 0x02 ∷ 0x01 ∷ f .exposures ∷ 0x00 ∷ 0xF0 ∷ f .repeats ∷ 0x00 ∷ 0x03 ∷ 0x00 ∷ 0x0A ∷ f .list ∷ f .science
+    ∷ exposes shots
+    (0x92 ∷ target
+    ∷ rest)
+
 abbrev pub raster : ℕ → Fields → ℕ → ℕ → List ℕ
 raster size f shots sum =
     size ∷ 0x00 ∷ 0x02 ∷ 0x01
-    ∷ 0x90 ∷ 0x00 ∷ 0x07 ∷ f .high ∷ f .low ∷ 0x00 ∷ f .loops ∷ 0x00 ∷ 0x00 ∷ 0x00 ∷ 0x00 ∷ 0x02 ∷ 0x01 ∷ f .exposures ∷ 0x00 ∷ 0xF0 ∷ f .repeats ∷ 0x00 ∷ 0x03 ∷ 0x00 ∷ 0x0A ∷ f .list ∷ f .science
-    ∷ exposes shots
-    (0x92 ∷ 0x1B
-    ∷ 0x94
+    ∷ rasterTo f shots 0x1B
+    (0x94
     ∷ sum ∷ [])
 
 -- the raster sequence of document 01, and with another initial position
@@ -59,3 +65,15 @@ rasterAtPosition high low sum = raster 0x22 (fields high low 3 1 2 0 0) 1 sum
 
 abbrev pub theRaster : List ℕ
 theRaster = rasterAtPosition 0x00 0x64 0xC0
+
+-- delays of 1
+abbrev pub delays : ℕ → List ℕ → List ℕ
+delays zero rest = rest
+delays (suc n) rest = 0x95 ∷ 0x00 ∷ 0x01 ∷ delays n rest
+
+-- a sequence of 255 bytes, for the old unit: delays, and three rasters of two passes at the places 169, 197 and 225, each with its exposure and its
+-- loop's target 23 further on
+abbrev pub longSequence : List ℕ
+longSequence =
+    let two : Fields = fields 0x00 0x64 2 1 1 0 0 in
+    0xFF ∷ 0x00 ∷ 0x01 ∷ 0x01 ∷ delays 55 (rasterTo two 1 192 (rasterTo two 1 220 (rasterTo two 1 248 (0x94 ∷ 0x77 ∷ []))))

@@ -557,7 +557,8 @@ fn leads_to_exposure(text: &[u8], from: usize, q: usize, t: usize) -> bool
     false
 }
 
-// Whether the loop back at q may jump to t, in the raster at r.
+// Whether the loop back at q may jump to t, in the raster at r. A run raster and an expose, which most texts are made of, are passed in
+// branches of their own: so the next place is known before the byte is there, where the size of another command waits for it.
 pub fn target_good(text: &[u8], r: Place, q: Place, t: u8) -> bool
     ensures { λ x. ⌜ x ≡ targetGood (now (text .entry)) (r .0) (q .0) t ⌝ }
 {
@@ -568,11 +569,24 @@ pub fn target_good(text: &[u8], r: Place, q: Place, t: u8) -> bool
     }
     let mut at = 4;
     while at <= raster {
-        let size = size_at(text, at);
-        if size == 0 {
-            return false;
+        let number = octets::byte(text, at);
+        if number == RUN_RASTER.op {
+            if size_at(text, at) == 0 {
+                return false;
+            }
+            at += RUN_RASTER.size as usize;
+        } else if number == EXPOSE.op {
+            if size_at(text, at) == 0 {
+                return false;
+            }
+            at += EXPOSE.size as usize;
+        } else {
+            let size = size_at(text, at);
+            if size == 0 {
+                return false;
+            }
+            at += size;
         }
-        at += size;
     }
     leads_to_exposure(text, at, index(q), target)
 }

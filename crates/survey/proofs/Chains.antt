@@ -12,8 +12,8 @@ use lib.Seq.{getD-set-same, getD-set-other, set-at, append-snoc, take-all}
 use borrow.Author.Tests.{eq-eqb, ne-eqb, lt-ltb, le-ltb}
 use Rattle.octets.proofs.Bools.{either}
 use Rattle.memory.specs.declared.Format.{Format}
-use Rattle.memory.specs.Memory.{Fair, tablesWrong, entryOf}
-use Rattle.memory.proofs.Laws.{entry-short}
+use Rattle.memory.specs.Memory.{tablesWrong, entryOf}
+use Rattle.memory.proofs.Laws.{Fair, entry-short}
 use Rattle.sequence.specs.declared.Fault.{Fault}
 use Rattle.sequence.specs.declared.ListCard.{ListCard}
 use Rattle.sequence.specs.Starts.{among}
@@ -33,6 +33,8 @@ use Rattle.survey.specs.Walk.{Finding, passes, faults, reasonFor, checkO
 use Rattle.survey.specs.Chain.{Told, told, total, front, onward, follow, chainOf, checkRows, checkOf}
 use Rattle.survey.specs.Report.{padded, reportOf, walkedOf}
 use Rattle.survey.specs.Held.{AtMost, unmarked, Marked, Free, Is, LowCall, joined, ahead, emptyChain, reasoned, reported}
+use Rattle.survey.proofs.Names.{low-one}
+use Rattle.survey.proofs.Listing.{unlisted-most, follow-enough}
 use Rattle.survey.proofs.Totals.{Octets, part-octets}
 use Rattle.survey.proofs.Reasons.{Right, right-one}
 use Rattle.survey.proofs.Laws.{one-most, one-low}
@@ -263,7 +265,7 @@ follow-whole found (suc f) names n =
     let go : ℕ → Told = λ m. follow found f (n ∷ names) m in
     either (λ (t : Told). joined [] 0 0 t ≡ t) (among n names) (told [] Returns 0 0) (onward go n (found n)) refl (onward-whole go n (found n))
 
-module _ (F : Format) (seqs lists : List ℕ) (n : ℕ) (start : Chain) (es : start ≡ emptyChain) (wrong : Bool) (ew : wrong ≡ tablesWrong seqs lists) (r : Report) where
+module _ (F : Format) (seqs lists : List ℕ) (n : ℕ) (start : Chain) (es : start ≡ emptyChain) (wrong : Bool) (ew : wrong ≡ tablesWrong F seqs lists) (r : Report) where
   nothing-said : (code : ℕ) → reported (envOf F lists) seqs (checked start (Unlisted code)) ≡ reportOf (told [] (Unlisted code) 0 0)
   unfolding reported reportOf padded
   nothing-said code = rw es
@@ -276,11 +278,11 @@ module _ (F : Format) (seqs lists : List ℕ) (n : ℕ) (start : Chain) (es : st
   unfolding checkOf checkRows
   check-high t l h = rw (← ew, t, lt-ltb (F .last) n l) (h ∙ nothing-said 7)
 
-  pub check-runs : F .last ≡ 127 → wrong ≡ false → n ≤ F .last → (d : Checked)
+  pub check-runs : F .last ≤ 127 → wrong ≡ false → n ≤ F .last → (d : Checked)
       → Reports (envOf F lists) seqs start (λ names. follow (findingOf (envOf F lists) seqs) (unmarked (start .marks)) names n) d → r ≡ reported (envOf F lists) seqs d → r ≡ reportOf (checkOf F seqs lists n)
   unfolding checkOf checkRows chainOf unmarked
-  check-runs full t l d h er =
+  check-runs fits t l d h er =
       let i : Is start [] = rw es is-start in
       let found = findingOf (envOf F lists) seqs in
       rw (← ew, t, le-ltb (F .last) n l)
-      (er ∙ (rw es at (h [] i)) ∙ ap reportOf (follow-whole found 128 [] n ∙ ap (λ (last : ℕ). follow found (suc last) [] n) (sym full)))
+      (er ∙ (rw es at (h [] i)) ∙ ap reportOf (follow-whole found 128 [] n ∙ follow-enough (F .last) found (λ m. low-one (envOf F lists) _) (suc (F .last)) 128 [] n (omega arith) l (unlisted-most (suc (F .last)) [])))

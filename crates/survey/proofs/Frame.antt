@@ -207,7 +207,7 @@ module _ (F : Format) (seqs lists seqs′ lists′ : List ℕ) where
       (λ m l. ap (checkOne (envOf F lists′)) (a .entries m l) ∙ one-same (cardsOf lists) (cardsOf lists′) (entryOf F seqs m) F (λ k b u. ap listCard (a .used m k l b u)))
 
   -- tables of the right sizes that agree in what a check of the first pair lists and uses have the same report
-  pub frame : tablesWrong seqs lists ≡ false → tablesWrong seqs′ lists′ ≡ false
+  pub frame : tablesWrong F seqs lists ≡ false → tablesWrong F seqs′ lists′ ≡ false
       → (n : ℕ) → Agree F seqs lists seqs′ lists′ (checkOf F seqs lists n .names) → checkOf F seqs′ lists′ n ≡ checkOf F seqs lists n
   unfolding checkOf checkRows
   frame right right′ n a =

@@ -15,7 +15,8 @@ use Rattle.memory.specs.declared.Format.{Format}
 use Rattle.memory.specs.declared.Place.{Place}
 use Rattle.memory.specs.declared.Placed.{Placed}
 use Rattle.memory.specs.declared.Placed.the-variants.{At, Outside}
-use Rattle.memory.specs.Memory.{Fair, placeAt, placeOf}
+use Rattle.memory.proofs.Laws.{Fair}
+use Rattle.memory.specs.Memory.{placeAt, placeOf}
 use Rattle.sequence.specs.declared.Command.{Command}
 use Rattle.sequence.specs.declared.Command.the-variants.{RunRaster, Expose, LoopBack, CallSequence, Terminate, Delay, Nothing, Unknown, Unfit}
 use Rattle.sequence.specs.declared.Header.{Header}

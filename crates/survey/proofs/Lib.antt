@@ -1,4 +1,5 @@
 pub mod Names
+pub mod Listing
 pub mod Reasons
 pub mod Frame
 pub mod Counts

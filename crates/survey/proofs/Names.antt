@@ -72,7 +72,7 @@ module _ (F : Format) where
 
 -- what is shown of the chain of each number that the table has, and of a report with nothing listed, holds of a check
 pub of-check : (P : Told → Type 0) (F : Format) (seqs lists : List ℕ) (n : ℕ) → ((code : ℕ) → P (told [] (Unlisted code) 0 0))
-    → (tablesWrong seqs lists ≡ false → n ≤ F .last → P (chainOf F (findingOf (envOf F lists) seqs) n)) → P (checkOf F seqs lists n)
+    → (tablesWrong F seqs lists ≡ false → n ≤ F .last → P (chainOf F (findingOf (envOf F lists) seqs) n)) → P (checkOf F seqs lists n)
 unfolding checkOf checkRows
 of-check P F seqs lists n f g =
     let rows = checkRows F seqs lists n in

@@ -1,17 +1,17 @@
 -- Samples of the table check beside those of document 01, which are among promises', as rows of one list. Assumes nothing.
-use Prim.Native.Nat.{ℕ, zero, suc}
+use Prim.Native.Nat.{ℕ}
 use mathlib.Core.Path.{_≡_, refl}
 use mathlib.Core.Bool.{true}
 use mathlib.Core.List.{List, [], _∷_}
 use Rattle.octets.specs.Bytes.{xorOn}
 use Rattle.octets.proofs.Samples.{Sample, sample, allRight}
-use Rattle.memory.specs.Memory.{flight, tablesWrong, entryOf}
+use Rattle.memory.specs.Memory.{flight, formatOf, fills, tablesWrong, entryOf}
 use Rattle.sequence.specs.Text.{limit, lengthGood, xorGood, headerRows, headerOf, sizeOf, decoded, noneThere, commandAt, sizeAt}
 use Rattle.sequence.specs.Starts.{starts, startsOf, among, exposesBetween, firstExposure, targetGood}
 use Rattle.sequence.specs.Raster.{rasterAt, flagsGood, markMissing, somePast}
 use Rattle.sequence.specs.LineList.{checksumOf, marked, marksOf, listCard}
 use Rattle.sequence.specs.Env.{envOf}
-use Rattle.sequence.proofs.SampleTables.{seqs, lists, lineList, theRaster}
+use Rattle.sequence.proofs.SampleTables.{seqs, lists, lineList, theRaster, calls, delays, longSequence}
 use Rattle.runner.specs.Judge.{pathRows, rasterRows, runRows, exposeRows, loopRows, closeRows, judged, judge}
 use Rattle.survey.specs.Items.{positionsOf}
 use Rattle.survey.specs.Walk.{Finding, passes, faults, walked, walk, checkOne, findingOf}
@@ -25,8 +25,11 @@ endNumbers e rest = e .number ∷ e .code ∷ e .sequence ∷ e .place ∷ rest
 abbrev pub toldNumbers : Told → List ℕ
 toldNumbers t = endNumbers (endingShown (t .ending)) (t .steps ∷ t .exposures ∷ t .names)
 
+abbrev checkedBy : ℕ → ℕ → List ℕ → List ℕ → List ℕ
+checkedBy kind n sequence list = toldNumbers (checkOf (formatOf kind) (seqs sequence) (lists list) n)
+
 abbrev checked : ℕ → List ℕ → List ℕ → List ℕ
-checked n sequence list = toldNumbers (checkOf flight (seqs sequence) (lists list) n)
+checked = checkedBy 0
 
 -- where the exposures of one round of sequence 0 are made
 abbrev found : List ℕ → Finding → List ℕ
@@ -37,10 +40,6 @@ abbrev exposed : List ℕ → List ℕ → List ℕ
 exposed sequence list = found (entryOf flight (seqs sequence) 0) (findingOf (envOf flight (lists list)) (seqs sequence) 0)
 
 -- as many steps as one sequence can have: every count at its greatest, and a command of three bytes wherever one has room
-abbrev delays : ℕ → List ℕ → List ℕ
-delays zero rest = rest
-delays (suc n) rest = 0x95 ∷ 0x00 ∷ 0x01 ∷ delays n rest
-
 abbrev longest : List ℕ
 longest =
     0x80 ∷ 0x00 ∷ 0x01 ∷ 0xFF
@@ -63,8 +62,17 @@ samples =
     ∷ sample (checked 128 [] []) (0 ∷ 7 ∷ 0 ∷ 0 ∷ 0 ∷ 0 ∷ [])
     -- the tables in each other's place
     ∷ sample (toldNumbers (checkOf flight (lists []) (seqs []) 128)) (0 ∷ 16 ∷ 0 ∷ 0 ∷ 0 ∷ 0 ∷ [])
+    -- the old unit: a sequence of 255 bytes with loop targets past 127; in flight it is too long
+    ∷ sample (checkedBy 1 0 longSequence (lineList 1)) (1 ∷ 0 ∷ 0 ∷ 0 ∷ 72 ∷ 6 ∷ 0 ∷ [])
+    ∷ sample (checkedBy 0 0 longSequence (lineList 1)) (3 ∷ 2 ∷ 0 ∷ 0 ∷ 0 ∷ 0 ∷ 0 ∷ [])
+    -- its length byte 0 is 2, a call of 64 is 4, number 63 is its last; kind 2 is 16
+    ∷ sample (checkedBy 1 0 [] []) (3 ∷ 2 ∷ 0 ∷ 0 ∷ 0 ∷ 0 ∷ 0 ∷ [])
+    ∷ sample (checkedBy 1 0 (calls 64 0xD5) []) (3 ∷ 4 ∷ 0 ∷ 4 ∷ 0 ∷ 0 ∷ 0 ∷ [])
+    ∷ sample (checkedBy 1 63 [] []) (3 ∷ 2 ∷ 63 ∷ 0 ∷ 0 ∷ 0 ∷ 63 ∷ [])
+    ∷ sample (checkedBy 1 64 [] []) (0 ∷ 7 ∷ 0 ∷ 0 ∷ 0 ∷ 0 ∷ [])
+    ∷ sample (checkedBy 2 0 theRaster (lineList 1)) (0 ∷ 16 ∷ 0 ∷ 0 ∷ 0 ∷ 0 ∷ [])
     ∷ []
 
 pub samples-right : allRight samples ≡ true
-unfolding xorOn tablesWrong limit lengthGood xorGood headerRows headerOf sizeOf decoded noneThere commandAt sizeAt starts startsOf among exposesBetween firstExposure targetGood rasterAt flagsGood markMissing somePast checksumOf marked marksOf listCard pathRows rasterRows runRows exposeRows loopRows closeRows judged judge walked walk checkOne onward follow chainOf checkRows checkOf
+unfolding xorOn fills tablesWrong limit lengthGood xorGood headerRows headerOf sizeOf decoded noneThere commandAt sizeAt starts startsOf among exposesBetween firstExposure targetGood rasterAt flagsGood markMissing somePast checksumOf marked marksOf listCard pathRows rasterRows runRows exposeRows loopRows closeRows judged judge walked walk checkOne onward follow chainOf checkRows checkOf
 samples-right = refl

@@ -13,8 +13,8 @@ use Rattle.octets.specs.Bytes.{byteAt}
 use Rattle.octets.specs.Rows.{firstCode}
 use Rattle.octets.proofs.Bools.{choice}
 use Rattle.memory.specs.declared.Format.{Format}
-use Rattle.memory.specs.Memory.{Fair, placeAt, entryOf}
-use Rattle.memory.proofs.Laws.{entry-short}
+use Rattle.memory.specs.Memory.{placeAt, entryOf}
+use Rattle.memory.proofs.Laws.{Fair, entry-short}
 use Rattle.sequence.specs.declared.Header.{Header}
 use Rattle.sequence.specs.declared.Header.the-variants.{Repeats, Bad}
 use Rattle.sequence.specs.declared.ListCard.{ListCard}

@@ -50,9 +50,9 @@ follow found (suc f) names n =
 unfoldable pub chainOf : Format → (ℕ → Finding) → ℕ → Told
 chainOf F found n = follow found (suc (F .last)) [] n
 
--- "Given tables (wrong size: 16) and a sequence number (above 127: 7); either answers with nothing listed and totals 0."
+-- "Given tables (wrong size: 16) and a sequence number (above 127: 7)", or above the last of its kind; "either answers with nothing listed and totals 0."
 unfoldable pub checkRows : Format → List ℕ → List ℕ → ℕ → List Row
-checkRows F seqs lists n = row 16 (tablesWrong seqs lists) ∷ row 7 (ltb (F .last) n) ∷ []
+checkRows F seqs lists n = row 16 (tablesWrong F seqs lists) ∷ row 7 (ltb (F .last) n) ∷ []
 
 abbrev pub checkBy : ℕ → Told → Told
 checkBy code t = cond (eqb code 0) t (told [] (Unlisted code) 0 0)

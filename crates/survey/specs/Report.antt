@@ -1,9 +1,14 @@
 -- The check's answer as the code holds it: the chain in an array of 128 numbers, and the paper's number and values for each ending.
 use Prim.Native.Nat.{ℕ, _-_}
+use mathlib.Core.Bool.{cond}
 use mathlib.Core.List.{List, _++_}
-use lib.ListN.{length, replicate}
+use lib.ListN.{length, take, replicate}
+use Rattle.memory.specs.declared.Format.{Format}
+use Rattle.memory.specs.Memory.{fills}
 use Rattle.sequence.specs.declared.ReasonNumbers.{ReasonNumbers}
+use Rattle.sequence.specs.Text.{fault}
 use Rattle.sequence.specs.LineList.{reasonAs, badShown}
+use Rattle.sequence.specs.Env.{envOf}
 use Rattle.survey.specs.declared.Ending.{Ending}
 use Rattle.survey.specs.declared.Ending.the-variants.{Unlisted, Finishes, Returns, Faults}
 use Rattle.survey.specs.declared.Reason.{Reason}
@@ -11,7 +16,7 @@ use Rattle.survey.specs.declared.Reason.the-variants.{None, OfList, Mark
 use Rattle.survey.specs.declared.Walked.{Walked}
 use Rattle.survey.specs.declared.Walked.the-variants.{Faulty, Closed}
 use Rattle.survey.specs.declared.Report.{Report}
-use Rattle.survey.specs.Walk.{Finding, passes, faults}
+use Rattle.survey.specs.Walk.{Finding, passes, faults, checkOne}
 use Rattle.survey.specs.Chain.{Told}
 
 -- 0 nothing listed, 1 ends, 2 returns, 3 fault; its code; a fault's sequence and place
@@ -53,3 +58,7 @@ reportOf t = record { ending = t .ending; listed = padded (t .names); count = le
 abbrev pub walkedOf : Finding → Walked
 walkedOf (passes k x is p c) = Closed p c k x
 walkedOf (faults f reason) = Faulty f
+
+-- one sequence's text, taken alone, of at most an entry's bytes; "an unknown kind is 16"
+unfoldable pub checkAlone : Format → List ℕ → List ℕ → Walked
+checkAlone F lists text = cond (fills F) (walkedOf (checkOne (envOf F lists) (take (F .size) text))) (Faulty (fault 16 0))

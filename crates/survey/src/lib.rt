@@ -1,9 +1,10 @@
 // The table check: it reads and does not run.
 ghost use mathlib.Core.Path.{_≡_};
 ghost use Prim.Native.Nat.{ℕ, _+_, _≤_, _<_, _^_};
+ghost use mathlib.Core.Bool.{true};
 ghost use mathlib.Core.List.{List};
 ghost use lib.ListN.{length, take};
-ghost use Rattle.memory.specs.Memory.{flight, Fair};
+ghost use Rattle.memory.specs.Memory.{formatOf, fills};
 ghost use Rattle.sequence.specs.declared.Command.the-variants.{LoopBack};
 ghost use Rattle.sequence.specs.Text.{rowOf, sizeAt};
 ghost use Rattle.sequence.specs.Raster.{rasterAt};
@@ -11,7 +12,7 @@ ghost use Rattle.sequence.specs.Env.{cardsOf, envOf};
 ghost use Rattle.survey.specs.Items.{rasterSteps, rasterExposures};
 ghost use Rattle.survey.specs.Walk.{oneMore, reasonFor, walk, checkOne, findingOf};
 ghost use Rattle.survey.specs.Chain.{total, follow, checkOf};
-ghost use Rattle.survey.specs.Report.{reasonShown, reportOf, walkedOf};
+ghost use Rattle.survey.specs.Report.{reasonShown, reportOf, walkedOf, checkAlone};
 ghost use Rattle.survey.specs.Held.{moved, RoomFor, exposuresIn, pauseIn, between, loopedIn, allRounds, AtMost, unmarked, Marked, Free, Is, LowCall, joined, ahead, emptyChain, reasoned, reported};
 use memory::Format;
 use memory::Place;
@@ -208,7 +209,7 @@ impl Round {
 
 // One round of a text: its commands in order from place 4 on, at most as many as it has bytes.
 fn walk(format: Format, text: &[u8], lists: &[u8]) -> Walked
-    requires { ⌜ Fair format × (length (now text) ≤ format .size) ⌝ }
+    requires { ⌜ (fills format ≡ true) × (length (now text) ≤ format .size) ⌝ }
     ensures { λ r. ⌜ r ≡ walkedOf (walk (cardsOf (now (lists .entry))) (now (text .entry)) (length (now (text .entry))) 4 Opened.Shut) ⌝ }
 {
     let mut round = Round {
@@ -279,7 +280,7 @@ fn all_rounds(format: Format, repeats: u8, round: Walked) -> Walked
 
 // One sequence's text, taken alone: at most the bytes of an entry are read.
 fn check_text(format: Format, text: &[u8], lists: &[u8]) -> Walked
-    requires { ⌜ Fair format ⌝ }
+    requires { ⌜ fills format ≡ true ⌝ }
     ensures { λ r. ⌜ r ≡ walkedOf (checkOne (envOf format (now (lists .entry))) (take (format .size) (now (text .entry)))) ⌝ }
 {
     let entry = octets::part(text, 0, format.size as usize);
@@ -289,11 +290,14 @@ fn check_text(format: Format, text: &[u8], lists: &[u8]) -> Walked
     }
 }
 
-// One sequence's text, taken alone, of the flight unit's table.
-pub fn check_one(text: &[u8], lists: &[u8]) -> Walked
-    ensures { λ r. ⌜ r ≡ walkedOf (checkOne (envOf flight (now (lists .entry))) (take 128 (now (text .entry)))) ⌝ }
+// One sequence's text, taken alone; 16 for no kind of tables.
+pub fn check_one(kind: u32, text: &[u8], lists: &[u8]) -> Walked
+    ensures { λ r. ⌜ r ≡ checkAlone (formatOf kind) (now (lists .entry)) (now (text .entry)) ⌝ }
 {
-    check_text(Format::flight(), text, lists)
+    if memory::BENCH < kind {
+        return Walked::Faulty(Fault { code: 16, place: 0 });
+    }
+    check_text(Format::of(kind), text, lists)
 }
 
 // Nothing listed.
@@ -311,7 +315,7 @@ fn empty() -> Chain
 
 // Sequence n, which is not listed yet, listed and marked, and what its closing command leads to.
 fn check_sequence(format: Format, seqs: &[u8], lists: &[u8], n: u8, mut chain: Chain) -> Checked
-    requires { ⌜ Fair format × Free chain n ⌝ }
+    requires { ⌜ (fills format ≡ true) × Free chain n ⌝ }
     ensures { λ r. ⌜ ((names : List ℕ) → Is chain names → reported (envOf format (now (lists .entry))) (now (seqs .entry)) r ≡ reportOf (joined names (chain .steps) (chain .exposures) (follow (findingOf (envOf format (now (lists .entry))) (now (seqs .entry))) (unmarked (chain .marks)) names n))) ⌝ }
 {
     let at = chain.count;
@@ -345,7 +349,7 @@ fn check_closing(
     chain: Chain,
     closing: Closing,
 ) -> Checked
-    requires { ⌜ Fair format × Marked chain × LowCall closing ⌝ }
+    requires { ⌜ (fills format ≡ true) × Marked chain × LowCall closing ⌝ }
     ensures { λ r. ⌜ ((names : List ℕ) → Is chain names → reported (envOf format (now (lists .entry))) (now (seqs .entry)) r ≡ reportOf (joined names (chain .steps) (chain .exposures) (ahead (follow (findingOf (envOf format (now (lists .entry))) (now (seqs .entry))) (unmarked (chain .marks)) names) closing))) ⌝ }
 {
     match closing {
@@ -458,14 +462,14 @@ impl Checked {
     }
 }
 
-// The table check of a sequence and of those that it calls, in order: 16 for tables of a wrong size, then 7 for a number above 127, then
-// the chain up to its end, its return or its first fault.
-pub fn check(seqs: &[u8], lists: &[u8], number: u32) -> Report
-    ensures { λ r. ⌜ r ≡ reportOf (checkOf flight (now (seqs .entry)) (now (lists .entry)) number) ⌝ }
+// The table check of a sequence and of those that it calls, in order: 16 for tables of a wrong size or of no kind, then 7 for a number above the
+// last, then the chain up to its end, its return or its first fault.
+pub fn check(kind: u32, seqs: &[u8], lists: &[u8], number: u32) -> Report
+    ensures { λ r. ⌜ r ≡ reportOf (checkOf (formatOf kind) (now (seqs .entry)) (now (lists .entry)) number) ⌝ }
 {
-    let format = Format::flight();
+    let format = Format::of(kind);
     let chain = empty();
-    if memory::tables_wrong(seqs, lists) {
+    if memory::tables_wrong(kind, seqs, lists) {
         let wrong = Checked {
             chain,
             ending: Ending::Unlisted(16),

@@ -1,8 +1,9 @@
 // The table check at the desk: standard input is the two dumps put together, arguments are sequence numbers, none means all of them;
-// the argument `lists` asks for the test of every line list.
+// the argument `lists` asks for the test of every line list. A first argument `old` says that the tables are of the old kind.
 use libc::STDIN_FILENO;
 use libc::STDOUT_FILENO;
 use line::Numeral;
+use memory::Format;
 use sequence::BadList;
 use sequence::Fault;
 use sequence::ListCard;
@@ -142,13 +143,13 @@ fn put_list(text: &mut [u8], at: usize, n: u8, card: ListCard) -> usize {
 }
 
 // The check of the sequence that a word names, shown.
-fn show(seqs: &[u8], lists: &[u8], word: &[u8], text: &mut [u8]) {
+fn show(kind: u32, seqs: &[u8], lists: &[u8], word: &[u8], text: &mut [u8]) {
     let named = line::number(word, 0);
     let number = match named {
         Numeral::Value(n) => n as u32,
         Numeral::Wrong => 65535,
     };
-    let n = put_report(text, 0, word, survey::check(seqs, lists, number));
+    let n = put_report(text, 0, word, survey::check(kind, seqs, lists, number));
     io::write_all(STDOUT_FILENO, octets::part(text, 0, n));
 }
 
@@ -168,40 +169,40 @@ fn show_lists(lists: &[u8], text: &mut [u8]) {
     io::write_all(STDOUT_FILENO, octets::part(text, 0, end));
 }
 
-// Whether a word is the one wanted.
-fn is_word(word: &[u8], wanted: &[u8]) -> bool {
-    if word.len() != wanted.len() {
-        return false;
-    }
-    line::begins(word, wanted)
-}
-
 // What a word asks for, shown: the line lists, or the check of a sequence.
-fn show_asked(seqs: &[u8], lists: &[u8], word: &[u8], text: &mut [u8]) {
-    if is_word(word, b"lists") {
+fn show_asked(kind: u32, seqs: &[u8], lists: &[u8], word: &[u8], text: &mut [u8]) {
+    if line::is_word(word, b"lists") {
         show_lists(lists, text);
     } else {
-        show(seqs, lists, word, text);
+        show(kind, seqs, lists, word, text);
     }
 }
 
 // Every sequence in order.
-fn show_all(seqs: &[u8], lists: &[u8], word: &mut [u8], text: &mut [u8]) {
-    let mut n: u8 = 0;
-    while n <= memory::LAST_SEQUENCE {
-        let end = line::put_number(word, 0, n as u64);
-        show(seqs, lists, octets::part(word, 0, end), text);
+fn show_all(kind: u32, seqs: &[u8], lists: &[u8], word: &mut [u8], text: &mut [u8]) {
+    let last = Format::of(kind).last as u64;
+    let mut n: u64 = 0;
+    while n <= last {
+        let end = line::put_number(word, 0, n);
+        show(kind, seqs, lists, octets::part(word, 0, end), text);
         n += 1;
     }
 }
 
-// What the arguments ask for, each in its turn.
-fn show_named(seqs: &[u8], lists: &[u8], word: &mut [u8], text: &mut [u8]) {
+// What the arguments from this one on ask for, each in its turn.
+fn show_named(
+    kind: u32,
+    first: usize,
+    seqs: &[u8],
+    lists: &[u8],
+    word: &mut [u8],
+    text: &mut [u8],
+) {
     let count = os::arg_count();
-    let mut i = 1;
+    let mut i = first;
     while i < count {
         let end = os::arg(i, word);
-        show_asked(seqs, lists, octets::part(word, 0, end), text);
+        show_asked(kind, seqs, lists, octets::part(word, 0, end), text);
         i += 1;
     }
 }
@@ -215,10 +216,13 @@ fn run(tables: &mut [u8], word: &mut [u8], text: &mut [u8]) {
     }
     let seqs = octets::part(tables, 0, memory::SEQUENCE_TABLE);
     let lists = octets::part(tables, memory::SEQUENCE_TABLE, memory::LINE_LIST_TABLE);
-    if os::arg_count() <= 1 {
-        show_all(seqs, lists, word, text);
+    let end = os::arg(1, word);
+    let kind = line::kind_named(octets::part(word, 0, end));
+    let first = if kind == memory::FLIGHT { 1 } else { 2 };
+    if os::arg_count() <= first {
+        show_all(kind, seqs, lists, word, text);
     } else {
-        show_named(seqs, lists, word, text);
+        show_named(kind, first, seqs, lists, word, text);
     }
 }
 

@@ -72,7 +72,7 @@ module _ (F : Format) (u : Unit) (seqs lists out p : List ℕ) where
   unfolding codeOf packetRows
   own-codes =
       let rest = drop 2 (packetRows F u seqs lists out p) in
-      known (firstCode rest) (lentWrong seqs lists out) (outOfRange F u) (first-capped 10 rest (own-rows F (commandOf p) u p .1))
+      known (firstCode rest) (lentWrong F seqs lists out) (outOfRange F u) (first-capped 10 rest (own-rows F (commandOf p) u p .1))
 
   -- ── when a packet is obeyed
   pub accepted : (codeOf F u seqs lists out p ≡ 0) ↔ NoneHolds (packetRows F u seqs lists out p)
@@ -89,7 +89,7 @@ module _ (F : Format) (u : Unit) (seqs lists out p : List ℕ) where
       let (whole, obeys) = none-split shape own rest in
       (arrives, whole, obeys)
 
-  pub lent-right : codeOf F u seqs lists out p ≡ 0 → lentWrong seqs lists out ≡ false
+  pub lent-right : codeOf F u seqs lists out p ≡ 0 → lentWrong F seqs lists out ≡ false
   lent-right h = passed h .0 .0
 
   -- ── what a refusal leaves
@@ -116,11 +116,11 @@ module _ (F : Format) (u : Unit) (seqs lists out p : List ℕ) where
       simp (ne-eqb (codeOf F u seqs lists out p) 0 (λ z. omega arith), le-leb 16 (codeOf F u seqs lists out p) h)
 
 -- whatever its state in range, a unit that is lent the right sizes obeys a status request: no table of rows may refuse everything
-pub status-obeyed : (F : Format) (u : Unit) (seqs lists out : List ℕ) → lentWrong seqs lists out ≡ false → outOfRange F u ≡ false → codeOf F u seqs lists out (0x01 ∷ []) ≡ 0
+pub status-obeyed : (F : Format) (u : Unit) (seqs lists out : List ℕ) → lentWrong F seqs lists out ≡ false → outOfRange F u ≡ false → codeOf F u seqs lists out (0x01 ∷ []) ≡ 0
 unfolding telecommandOf ownRows packetRows codeOf
 status-obeyed F u seqs lists out lent range = simp (lent, range)
 
 -- an output of the right size has room for every answer
-pub room : (seqs lists out : List ℕ) → lentWrong seqs lists out ≡ false → 16384 ≤ length out
+pub room : (F : Format) (seqs lists out : List ℕ) → lentWrong F seqs lists out ≡ false → 16384 ≤ length out
 unfolding lentWrong
-room seqs lists out h = ltb-false (length out) 16384 (or-neither (tablesWrong seqs lists) (ltb (length out) 16384) h .1)
+room F seqs lists out h = ltb-false (length out) 16384 (or-neither (tablesWrong F seqs lists) (ltb (length out) 16384) h .1)

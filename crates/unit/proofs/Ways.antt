@@ -68,7 +68,7 @@ module _ (F : Format) (u : Unit) (time : ℕ) (seqs lists out p : List ℕ) (cod
   refuses v n e = simp (← told, ne-eqb code 0 n, e) (refl, (refl, (refl, refl)))
 
   pub has-room : code ≡ 0 → 16384 ≤ length out
-  has-room z = room seqs lists out (lent-right F u seqs lists out p (sym told ∙ z))
+  has-room z = room F seqs lists out (lent-right F u seqs lists out p (sym told ∙ z))
 
   pub obeys : (k : Telecommand) (n : ℕ) (v : Unit) (seqs' lists' out' : List ℕ)
       → code ≡ 0 → k ≡ telecommandOf (byteAt p 0)

@@ -33,13 +33,13 @@ ownRows F Foreign u p = []
 ownRows F Unheard u p = []
 
 -- "The caller lends both, 16,384 and 7,872 bytes exactly, and an output of at least 16,384."
-unfoldable pub lentWrong : List ℕ → List ℕ → List ℕ → Bool
-lentWrong seqs lists out = tablesWrong seqs lists || ltb (length out) 16384
+unfoldable pub lentWrong : Format → List ℕ → List ℕ → List ℕ → Bool
+lentWrong F seqs lists out = tablesWrong F seqs lists || ltb (length out) 16384
 
 -- "16, 17, empty, 8": before the command is looked at
 abbrev pub arrivalRows : Format → Unit → List ℕ → List ℕ → List ℕ → List ℕ → List Row
 arrivalRows F u seqs lists out p =
-    row 16 (lentWrong seqs lists out)
+    row 16 (lentWrong F seqs lists out)
     ∷ row 17 (outOfRange F u)
     ∷ row 1 (eqb (length p) 0)
     ∷ row 8 (ltb 133 (length p))

@@ -50,7 +50,7 @@ powerOn =
 abbrev pub isNone : ℕ → Bool
 isNone n = eqb n 255
 
--- "above 127 (unless none)", 127 the last number
+-- "above 127 (unless none)", or above the last number of the kind
 abbrev pub beyond : ℕ → ℕ → Bool
 beyond last n = ltb last n && not (isNone n)
 

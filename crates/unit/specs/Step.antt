@@ -17,7 +17,7 @@ use Rattle.unit.specs.declared.UnitStep.{UnitStep}
 use Rattle.unit.specs.State.{withWatch, withRunner, outOfRange}
 
 unfoldable pub stepRows : Format → Unit → List ℕ → List ℕ → List Row
-stepRows F u seqs lists = row 16 (tablesWrong seqs lists) ∷ row 17 (outOfRange F u) ∷ []
+stepRows F u seqs lists = row 16 (tablesWrong F seqs lists) ∷ row 17 (outOfRange F u) ∷ []
 
 abbrev pub stepped : Outcome → Unit → UnitStep
 stepped o u = record { outcome = o; unit = u }

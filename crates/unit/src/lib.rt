@@ -6,13 +6,13 @@ ghost use mathlib.Core.List.{_++_};
 ghost use lib.Dec.{leb};
 ghost use lib.ListN.{length, drop};
 ghost use Rattle.octets.specs.Rows.{firstCode, some};
-ghost use Rattle.memory.specs.Memory.{windowCode, windowPart};
+ghost use Rattle.memory.specs.Memory.{formatOf, windowCode, windowPart};
 ghost use Rattle.telecommand.specs.declared.Telecommand.the-variants.{Mode, Select, Uplink};
 ghost use Rattle.status.specs.State.{withAbort, withMode, withAllowed, withRequests, counted, cleared};
 ghost use Rattle.unit.specs.State.{powerOn, beyond, runsWrong, rangeTests, outOfRange, withLedger, withWatch, withControl, started, stopped, moded, selected};
 ghost use Rattle.unit.specs.Packet.{ownRows, lentWrong, codeOf};
 ghost use Rattle.unit.specs.Answer.{withArrival, obeyedUnit, reply, refusedUnit, answerOf, seqsAfter, listsAfter, outAfter};
-ghost use Rattle.unit.specs.Step.{stepRows, withStep, unitStep};
+ghost use Rattle.unit.specs.Step.{withStep, unitStep};
 use memory::Format;
 use runner::Event;
 use runner::OpenRaster;
@@ -123,14 +123,11 @@ fn beyond(last: u8, n: u8) -> bool
     octets::both(last < n, n != Runner::NONE)
 }
 
-// Whether a sequence has no such place. Bytes are compared: a wider test does not fold with that for none.
+// Whether a sequence has no such place.
 fn no_place(format: Format, place: u8) -> bool
     ensures { λ r. ⌜ r ≡ leb (format .size) place ⌝ }
 {
-    if 255 < format.size {
-        return false;
-    }
-    format.size as u8 <= place
+    format.size <= place as u16
 }
 
 impl Unit {
@@ -407,24 +404,25 @@ impl Unit {
     }
 }
 
-// Whether a lent table or the output has a wrong size.
-pub fn lent_wrong(seqs: &[u8], lists: &[u8], out: &[u8]) -> bool
-    ensures { λ r. ⌜ r ≡ lentWrong (now (seqs .entry)) (now (lists .entry)) (now (out .entry)) ⌝ }
+// Whether there is no such kind of tables, or a lent table or the output has a wrong size.
+pub fn lent_wrong(kind: u32, seqs: &[u8], lists: &[u8], out: &[u8]) -> bool
+    ensures { λ r. ⌜ r ≡ lentWrong (formatOf kind) (now (seqs .entry)) (now (lists .entry)) (now (out .entry)) ⌝ }
 {
     octets::either(
-        memory::tables_wrong(seqs, lists),
+        memory::tables_wrong(kind, seqs, lists),
         out.len() < memory::LONGEST,
     )
 }
 
 impl Unit {
     // The code that a packet is answered: that of the first refusal that holds, or 0. No later one is looked at.
-    fn refusal(self, format: Format, seqs: &[u8], lists: &[u8], out: &[u8], pkt: &[u8]) -> u8
-        ensures { λ r. ⌜ r ≡ codeOf format self (now (seqs .entry)) (now (lists .entry)) (now (out .entry)) (now (pkt .entry)) ⌝ }
+    fn refusal(self, kind: u32, seqs: &[u8], lists: &[u8], out: &[u8], pkt: &[u8]) -> u8
+        ensures { λ r. ⌜ r ≡ codeOf (formatOf kind) self (now (seqs .entry)) (now (lists .entry)) (now (out .entry)) (now (pkt .entry)) ⌝ }
     {
-        if lent_wrong(seqs, lists, out) {
+        if lent_wrong(kind, seqs, lists, out) {
             return 16;
         }
+        let format = Format::of(kind);
         if self.out_of_range(format) {
             return 17;
         }
@@ -514,19 +512,19 @@ impl Unit {
     // One packet: its answer, with the unit, the tables and the output after it.
     pub fn packet(
         self,
-        format: Format,
+        kind: u32,
         seqs: &mut [u8],
         lists: &mut [u8],
         out: &mut [u8],
         time: u32,
         pkt: &[u8],
     ) -> Answer
-        ensures { λ r. ⌜ r ≡ answerOf format self time (now (seqs .entry)) (now (lists .entry)) (now (out .entry)) (now (pkt .entry)) ⌝ }
-        ensures { λ _. ⌜ now (seqs .exit) ≡ seqsAfter format self (now (seqs .entry)) (now (lists .entry)) (now (out .entry)) (now (pkt .entry)) ⌝ }
-        ensures { λ _. ⌜ now (lists .exit) ≡ listsAfter format self (now (seqs .entry)) (now (lists .entry)) (now (out .entry)) (now (pkt .entry)) ⌝ }
-        ensures { λ _. ⌜ now (out .exit) ≡ outAfter format self time (now (seqs .entry)) (now (lists .entry)) (now (out .entry)) (now (pkt .entry)) ⌝ }
+        ensures { λ r. ⌜ r ≡ answerOf (formatOf kind) self time (now (seqs .entry)) (now (lists .entry)) (now (out .entry)) (now (pkt .entry)) ⌝ }
+        ensures { λ _. ⌜ now (seqs .exit) ≡ seqsAfter (formatOf kind) self (now (seqs .entry)) (now (lists .entry)) (now (out .entry)) (now (pkt .entry)) ⌝ }
+        ensures { λ _. ⌜ now (lists .exit) ≡ listsAfter (formatOf kind) self (now (seqs .entry)) (now (lists .entry)) (now (out .entry)) (now (pkt .entry)) ⌝ }
+        ensures { λ _. ⌜ now (out .exit) ≡ outAfter (formatOf kind) self time (now (seqs .entry)) (now (lists .entry)) (now (out .entry)) (now (pkt .entry)) ⌝ }
     {
-        let code = self.refusal(format, seqs, lists, out, pkt);
+        let code = self.refusal(kind, seqs, lists, out, pkt);
         if code != 0 {
             let unit = self.refused(code, pkt);
             return Answer {
@@ -547,18 +545,18 @@ impl Unit {
     }
 }
 
-// The code beside the part that the desk asks for: 16 for wrong tables, then 7, else 0.
-pub fn window_code(seqs: &[u8], lists: &[u8], address: u32, len: usize) -> u8
-    ensures { λ r. ⌜ r ≡ windowCode (now (seqs .entry)) (now (lists .entry)) address len ⌝ }
+// The code beside the part that the desk asks for: 16 for wrong tables or no kind, then 7, else 0.
+pub fn window_code(kind: u32, seqs: &[u8], lists: &[u8], address: u32, len: usize) -> u8
+    ensures { λ r. ⌜ r ≡ windowCode (formatOf kind) (now (seqs .entry)) (now (lists .entry)) address len ⌝ }
 {
-    memory::window_code(seqs, lists, address, len)
+    memory::window_code(kind, seqs, lists, address, len)
 }
 
 // The part that the desk asks for: the table's own bytes, or the empty part where the code is not 0.
-pub fn window<'a>(seqs: &'a [u8], lists: &'a [u8], address: u32, len: usize) -> &'a [u8]
-    ensures { λ r. ⌜ now r ≡ windowPart (now (seqs .entry)) (now (lists .entry)) address len ⌝ }
+pub fn window<'a>(kind: u32, seqs: &'a [u8], lists: &'a [u8], address: u32, len: usize) -> &'a [u8]
+    ensures { λ r. ⌜ now r ≡ windowPart (formatOf kind) (now (seqs .entry)) (now (lists .entry)) address len ⌝ }
 {
-    memory::window(seqs, lists, address, len)
+    memory::window(kind, seqs, lists, address, len)
 }
 
 impl Unit {
@@ -579,22 +577,16 @@ impl Unit {
         }
     }
 
-    // What a step is refused with: 16, then 17.
-    fn step_fault(self, format: Format, seqs: &[u8], lists: &[u8]) -> u8
-        ensures { λ r. ⌜ r ≡ firstCode (stepRows format self (now (seqs .entry)) (now (lists .entry))) ⌝ }
+    // One step of the unit: 16, then 17, else the runner's step and what the status takes from its event.
+    pub fn step(self, kind: u32, seqs: &[u8], lists: &[u8]) -> UnitStep
+        ensures { λ r. ⌜ r ≡ unitStep (formatOf kind) self (now (seqs .entry)) (now (lists .entry)) ⌝ }
     {
-        octets::refuse(
-            memory::tables_wrong(seqs, lists),
+        let format = Format::of(kind);
+        let code = octets::refuse(
+            memory::tables_wrong(kind, seqs, lists),
             16,
             octets::refuse(self.out_of_range(format), 17, 0),
-        )
-    }
-
-    // One step of the unit: 16, then 17, else the runner's step and what the status takes from its event.
-    pub fn step(self, format: Format, seqs: &[u8], lists: &[u8]) -> UnitStep
-        ensures { λ r. ⌜ r ≡ unitStep format self (now (seqs .entry)) (now (lists .entry)) ⌝ }
-    {
-        let code = self.step_fault(format, seqs, lists);
+        );
         if code != 0 {
             return UnitStep {
                 outcome: Outcome::Denied(code),

@@ -6,10 +6,10 @@ use Rattle.desk.proofs.run.Statement.{statement}
 use Rattle.desk.proofs.run.Tie as tie
 
 abbrev Inv-loop : tie.InvT-loop
-Inv-loop seqs₀ lists₀ out₀ piece₀ text₀ desk₀ held₀ turns₀ seqs lists out piece text desk held turns = (length seqs ≡ length seqs₀) × (length lists ≡ length lists₀) × (length out ≡ length out₀) × (length piece ≡ length piece₀) × (length text ≡ length text₀)
+Inv-loop kind seqs₀ lists₀ out₀ piece₀ text₀ desk₀ held₀ turns₀ seqs lists out piece text desk held turns = (length seqs ≡ length seqs₀) × (length lists ≡ length lists₀) × (length out ≡ length out₀) × (length piece ≡ length piece₀) × (length text ≡ length text₀)
 
 abbrev μ-loop : tie.MeasureT-loop
-μ-loop seqs₀ lists₀ out₀ piece₀ text₀ desk₀ held₀ turns₀ seqs lists out piece text desk held turns = turns
+μ-loop kind seqs₀ lists₀ out₀ piece₀ text₀ desk₀ held₀ turns₀ seqs lists out piece text desk held turns = turns
 
 loop-holds : tie.Need-loop-holds Inv-loop μ-loop
 loop-holds c = (refl, refl, refl, refl, refl)

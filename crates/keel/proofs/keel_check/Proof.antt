@@ -4,7 +4,7 @@ use Rattle.survey.specs.declared.Report.{Report}
 use Rattle.survey.specs.Report.{endingShown, reportOf}
 use borrow.Author.Tests.{eq-eqb, ne-eqb}
 use lib.ListN.{length}
-use Rattle.memory.specs.Memory.{flight}
+use Rattle.memory.specs.Memory.{formatOf}
 use Rattle.survey.specs.Chain.{checkOf}
 use Rattle.keel.specs.Report.{checkAnswer, reportAfter}
 use borrow.Author.Needs.{needs}
@@ -21,7 +21,7 @@ returns-2 c = let a = c .before .before .before .before .before .before .before 
     let y = eq-eqb (length (a .report .now)) 152 (c .before .before .before .before .before .if1 .left) in
     let e = c .before .before .before .before .check .ensures in
     let f = c .before .before .tell .ensures in
-    (simp y (f .0 ∙ ap (λ (r : Report). endingShown (r .ending) .code) e), simp y (f .1 (checkOf flight (a .seqs .now) (a .lists .now) (a .number)) e))
+    (simp y (f .0 ∙ ap (λ (r : Report). endingShown (r .ending) .code) e), simp y (f .1 (checkOf (formatOf (a .kind)) (a .seqs .now) (a .lists .now) (a .number)) e))
 
 pub keel-check-spec : {M : Type 1} → statement M
 keel-check-spec =

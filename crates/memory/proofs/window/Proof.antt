@@ -6,12 +6,12 @@ use Rattle.memory.proofs.window.Statement.{statement}
 use Rattle.memory.proofs.window.Tie as tie
 
 returns : tie.Need-returns
-returns c = hidden _ _ _ _ _ (c .before .before .window-code .ensures) (c .before .if1 .taken)
+returns c = hidden _ _ _ _ _ _ (c .before .before .window-code .ensures) (c .before .if1 .taken)
 
 returns-2 : tie.Need-returns-2
 returns-2 c =
     let b = c .before .before in
-    rw (c .part-of .ensures) (shown _ _ _ _ _ (b .before .window-code .ensures) _ _ (b .if1 .left) (c .before .range-at .ensures) refl)
+    rw (c .part-of .ensures) (shown _ _ _ _ _ _ (b .before .window-code .ensures) _ _ (b .if1 .left) (c .before .range-at .ensures) refl)
 
 pub window-spec : {M : Type 1} → statement M
 window-spec =

@@ -10,7 +10,8 @@ use lib.ListN.{length-append}
 use borrow.Author.Tests.{le-ltb}
 use Rattle.octets.specs.Bytes.{byteAt}
 use Rattle.memory.specs.declared.Format.{Format}
-use Rattle.memory.specs.Memory.{flight, Fair, tablesWrong}
+use Rattle.memory.specs.Memory.{tablesWrong}
+use Rattle.memory.proofs.Laws.{Fair}
 use Rattle.sequence.specs.declared.Command.the-variants.{CallSequence}
 use Rattle.sequence.specs.Starts.{among}
 use Rattle.sequence.specs.Env.{Env, envOf, textOf}
@@ -36,7 +37,7 @@ use Rattle.promises.proofs.Run.Rounds.{After}
 use Rattle.promises.proofs.Run.Counts.{length-sequence, length-rounds-positions, rounds-in-reach}
 use Rattle.promises.proofs.Run.Seen.{seen-both, sequence-seen}
 use Rattle.promises.proofs.Run.Sequences.{Passed, One, one-sequence}
-use Rattle.promises.proofs.Chain.Listing.{unlisted, unlisted-most, unlisted-less, all-listed, or-move}
+use Rattle.survey.proofs.Listing.{unlisted, unlisted-most, unlisted-less, all-listed, or-move}
 use Rattle.promises.proofs.Text.TextOrder.{commandOf, closing-of}
 
 -- ── what is to be seen of a chain, from the mirror at m, and where the mirror then is
@@ -185,9 +186,6 @@ pub kept : (E : Env) → Fair (E .format) → (seqs : List ℕ) (n m : ℕ) (s :
 kept E fair seqs n m s h d = kept-from E seqs n (chainIn E seqs n) m s (chainIn E seqs n .ending) (kept-exactly E fair seqs n m s h d)
 
 -- ── the check as it is asked for
-pub fair-flight : Fair flight
-fair-flight = record { size = omega arith; last = omega arith }
-
-pub check-is : (F : Format) (seqs lists : List ℕ) (n : ℕ) → tablesWrong seqs lists ≡ false → n ≤ F .last → checkOf F seqs lists n ≡ chainIn (envOf F lists) seqs n
+pub check-is : (F : Format) (seqs lists : List ℕ) (n : ℕ) → tablesWrong F seqs lists ≡ false → n ≤ F .last → checkOf F seqs lists n ≡ chainIn (envOf F lists) seqs n
 unfolding checkOf checkRows
 check-is F seqs lists n t h = rw (t, le-ltb (F .last) n h)

@@ -25,7 +25,7 @@ use Rattle.survey.specs.Chain.{Told, told, total, onward, follow, chainOf}
 use Rattle.survey.specs.Report.{endingShown}
 use Rattle.survey.proofs.Reasons.{one-right}
 use Rattle.promises.specs.Demand3.{SevenFor, Reasoned, Chain, last-terminates, last-returns, last-faulty, then-called, Differ, Lists}
-use Rattle.promises.proofs.Chain.Listing.{unlisted, unlisted-most, unlisted-less, all-listed, among-first, among-case, follow-all}
+use Rattle.survey.proofs.Listing.{unlisted, unlisted-most, unlisted-less, all-listed, among-first, among-case, follow-all}
 use Rattle.promises.proofs.Chain.Never.{called-known}
 use Rattle.promises.proofs.Chain.Chains.{chainIn}
 use Rattle.promises.proofs.Text.Walks.{passed-read}

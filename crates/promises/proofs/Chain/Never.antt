@@ -6,7 +6,7 @@ use mathlib.Core.Path.{_≡_, refl, subst}
 use mathlib.Core.Bool.{Bool, true, false, cond, _||_, false≢true, or-true}
 use mathlib.Core.List.{List, [], _∷_}
 use lib.Dec.{eqb}
-use Rattle.memory.specs.Memory.{Fair}
+use Rattle.memory.proofs.Laws.{Fair}
 use Rattle.sequence.specs.Starts.{among}
 use Rattle.sequence.specs.Env.{Env, textOf}
 use Rattle.runner.specs.declared.Runner.{Runner}
@@ -23,7 +23,7 @@ use Rattle.promises.proofs.Run.Runs.{run-quiet-more, idle-quiet}
 use Rattle.promises.proofs.Run.Rounds.{After}
 use Rattle.promises.proofs.Run.Sequences.{Passed, One, one-sequence}
 use Rattle.promises.proofs.Chain.Chains.{chainIn}
-use Rattle.promises.proofs.Chain.Listing.{unlisted, unlisted-most, unlisted-less, all-listed, or-move, among-first, among-case}
+use Rattle.survey.proofs.Listing.{unlisted, unlisted-most, unlisted-less, all-listed, or-move, among-first, among-case}
 
 -- what is called has P
 abbrev pub Leads : (ℕ → Type 0) → Closing → Type 0

@@ -27,7 +27,7 @@ use Rattle.promises.specs.Demand3.{repeatPlan, rastersPlan, roundPlan, s
 use Rattle.promises.proofs.Run.Turns.{length-turns}
 use Rattle.promises.proofs.Run.Sights.{passStart}
 use Rattle.promises.proofs.Run.Counts.{position}
-use Rattle.promises.proofs.Chain.Listing.{among-first}
+use Rattle.survey.proofs.Listing.{among-first}
 use Rattle.promises.proofs.Chain.Chains.{chainIn}
 use Rattle.promises.proofs.Chain.Never.{Fine, listed-fine}
 use Rattle.promises.proofs.Run.Shown.{turns-same, Blind, shots, repeatShown, itemsShown}

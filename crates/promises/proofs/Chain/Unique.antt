@@ -25,7 +25,7 @@ use Rattle.survey.specs.declared.Ending.the-variants.{Unlisted, Finishes, Retur
 use Rattle.survey.specs.declared.Reason.{Reason}
 use Rattle.promises.specs.Kept.{IsPassed}
 use Rattle.promises.specs.Demand3.{lastOf, Calling, SevenFor, Reasoned, Chain, last-terminates, last-returns, last-faulty, then-called, Differ}
-use Rattle.promises.proofs.Chain.Listing.{among-first, among-case}
+use Rattle.survey.proofs.Listing.{among-first, among-case}
 
 -- ── names that differ
 differ-part : (xs ys : List ℕ) → Differ (xs ++ ys) → Differ ys

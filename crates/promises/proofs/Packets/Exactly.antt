@@ -31,7 +31,8 @@ use Rattle.unit.specs.State.{outOfRange}
 use Rattle.unit.specs.Step.{stepRows, stepped, withStep, unitStepBy, unitStep}
 use Rattle.promises.specs.Library.{ours}
 use Rattle.promises.specs.Demand2.{StepAcceptedExactly, StepCodeExactly, StepTakes, StepKeeps, CheckExactly, WindowCodeExactly, WindowExactly, WindowShows}
-use Rattle.promises.proofs.Chain.Listing.{follow-all}
+use Rattle.survey.proofs.Listing.{follow-all}
+use Rattle.promises.proofs.Formats.{fills-exactly}
 use Rattle.promises.proofs.Packets.Tests.{in-sequences, in-line-lists, one-table-exactly}
 
 -- ── one law
@@ -108,7 +109,7 @@ by-code P false false u r f g h = f
 pub step-case : (F : Format) (P : UnitStep → Type 0) (u : ControlUnit) (seqs lists : List ℕ)
     → P (withStep u (stepOf (envOf F lists) seqs (u .runner))) → P (stepped (Denied 16) u) → P (stepped (Denied 17) u) → P (unitStep F u seqs lists)
 unfolding unitStep stepRows
-step-case F P u seqs lists = by-code P (tablesWrong seqs lists) (outOfRange F u) u (stepOf (envOf F lists) seqs (u .runner))
+step-case F P u seqs lists = by-code P (tablesWrong F seqs lists) (outOfRange F u) u (stepOf (envOf F lists) seqs (u .runner))
 
 pub step-takes : (F : Format) → StepTakes F ours
 unfolding unitStep withStep
@@ -159,27 +160,27 @@ check-exactly F seqs lists n =
 -- ── the window
 pub window-code-exactly : WindowCodeExactly ours
 unfolding windowCode windowRows
-window-code-exactly seqs lists a len =
+window-code-exactly F seqs lists a len =
     record {
-      handed = obeyed-exactly (windowRows seqs lists a len) tt;
-      refused = code-exactly (windowRows seqs lists a len);
-      empty = λ h. sym (hidden seqs lists a len (windowCode seqs lists a len) refl (λ z. omega arith));
+      handed = obeyed-exactly (windowRows F seqs lists a len) tt;
+      refused = code-exactly (windowRows F seqs lists a len);
+      empty = λ h. sym (hidden F seqs lists a len (windowCode F seqs lists a len) refl (λ z. omega arith));
     }
 
 pub window-exactly : WindowExactly ours
 unfolding windowRows
-window-exactly seqs lists a len =
-    let w = window-code-exactly seqs lists a len .handed in
+window-exactly F seqs lists a len =
+    let w = window-code-exactly F seqs lists a len .handed in
     let range = one-table-exactly a len in (
-      λ z. let (p, q) = sizes seqs lists (w .0 z .0) in (p, q, range .0 (w .0 z .1 .0)),
-      λ (p, q, i). w .1 (right-sizes seqs lists p q, (range .1 i, tt)),
+      λ z. let (f, p, q) = sizes F seqs lists (w .0 z .0) in (fills-exactly F .0 f, p, q, range .0 (w .0 z .1 .0)),
+      λ (f, p, q, i). w .1 (right-sizes F seqs lists (fills-exactly F .1 f) p q, (range .1 i, tt)),
     )
 
 pub window-shows : WindowShows ours
-window-shows seqs lists a len z =
-    let (p, q, (least, most, i)) = window-exactly seqs lists a len .0 z in
-    let there : (r : Range) → rangeAt a len ≡ r → windowPart seqs lists a len ≡ partOf seqs lists len r =
-    λ r e. sym (shown seqs lists a len (windowCode seqs lists a len) refl (rangeAt a len) r z refl e) in (
+window-shows F seqs lists a len z =
+    let (f, p, q, (least, most, i)) = window-exactly F seqs lists a len .0 z in
+    let there : (r : Range) → rangeAt a len ≡ r → windowPart F seqs lists a len ≡ partOf seqs lists len r =
+    λ r e. sym (shown F seqs lists a len (windowCode F seqs lists a len) refl (rangeAt a len) r z refl e) in (
       λ h. there (Sequences (a - 0x070000)) (in-sequences a len least most h),
       λ h. there (LineLists (a - 0x074000)) (in-line-lists a len least most h),
     )

@@ -21,6 +21,7 @@ use Rattle.unit.specs.declared.Unit.{Unit as ControlUnit}
 use Rattle.octets.specs.Rows.{some}
 use Rattle.unit.specs.State.{isNone, runsWrong, rangeTests, outOfRange}
 use Rattle.unit.specs.Packet.{lentWrong}
+use Rattle.promises.proofs.Formats.{fills-exactly}
 use Rattle.promises.specs.Sent.{Sent}
 use Rattle.promises.specs.Demand2.{Lent, RangeExactly, InSequences, InLineLists, InOneTable}
 
@@ -127,14 +128,14 @@ range-exactly F u = (
 )
 
 -- ── sizes
-pub lent-exactly : {F : Format} (s : Sent F) → (lentWrong (s .seqs) (s .lists) (s .out) ≡ false) ↔ Lent s
+pub lent-exactly : {F : Format} (s : Sent F) → (lentWrong F (s .seqs) (s .lists) (s .out) ≡ false) ↔ Lent s
 unfolding lentWrong
-lent-exactly s = (
+lent-exactly {F} s = (
   λ e.
-      let (a, b) = or-neither (tablesWrong (s .seqs) (s .lists)) (ltb (length (s .out)) 16384) e in
-      let (p, q) = sizes (s .seqs) (s .lists) a in
-      record { sequences = p; lineLists = q; output = ltb-false (length (s .out)) 16384 b },
-  λ l. simp (right-sizes (s .seqs) (s .lists) (l .sequences) (l .lineLists), le-ltb (length (s .out)) 16384 (l .output)),
+      let (a, b) = or-neither (tablesWrong F (s .seqs) (s .lists)) (ltb (length (s .out)) 16384) e in
+      let (f, p, q) = sizes F (s .seqs) (s .lists) a in
+      record { format = fills-exactly F .0 f; sequences = p; lineLists = q; output = ltb-false (length (s .out)) 16384 b },
+  λ l. simp (right-sizes F (s .seqs) (s .lists) (fills-exactly F .1 (l .format)) (l .sequences) (l .lineLists), le-ltb (length (s .out)) 16384 (l .output)),
 )
 
 -- ── ranges

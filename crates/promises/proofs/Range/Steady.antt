@@ -10,7 +10,8 @@ use lib.ListN.{length}
 use Rattle.octets.specs.Rows.{firstCode}
 use Rattle.octets.proofs.Bools.{by-test}
 use Rattle.memory.specs.declared.Format.{Format}
-use Rattle.memory.specs.Memory.{Fair, tablesWrong}
+use Rattle.memory.specs.Memory.{tablesWrong}
+use Rattle.memory.proofs.Laws.{right-sizes}
 use Rattle.sequence.specs.Env.{Env, envOf}
 use Rattle.runner.specs.declared.Runner.{Runner}
 use Rattle.runner.specs.declared.Stepped.{Stepped}
@@ -27,23 +28,23 @@ use Rattle.unit.specs.Answer.{answerOf}
 use Rattle.status.specs.State.{watched}
 use Rattle.unit.specs.Step.{stepRows, withStep, unitStepBy, unitStep}
 use Rattle.promises.specs.Range.{StepInRange, Shows}
+use Rattle.promises.specs.Formats.{Fills}
 use Rattle.promises.specs.Library.{ours}
 use Rattle.promises.specs.Demand3.{World, world, Action, step, packet, after, Reached, powered, lent, acted}
+use Rattle.promises.proofs.Formats.{fills-exactly, fair-in, room-in}
 use Rattle.promises.proofs.Range.Ranges.{step-range}
 use Rattle.promises.proofs.Range.Units.{InOrder, order-in}
 use Rattle.promises.proofs.Packets.Packets.{Free, packet-order, packet-free, packet-sizes}
 
 pub record Steady {F : Format} (w : World F) : Type 0 where
-  pub fair : Fair F
-  pub room : 4 < F .size
+  pub full : Fills F
   pub seqs : length (w .seqs) ≡ 16384
   pub lists : length (w .lists) ≡ 7872
   pub order : InOrder F (w .unit)
   pub free : Free (w .unit)
 
-pub tables-right : {F : Format} {w : World F} → Steady w → tablesWrong (w .seqs) (w .lists) ≡ false
-unfolding tablesWrong
-tables-right g = rw (g .seqs, g .lists)
+pub tables-right : {F : Format} {w : World F} → Steady w → tablesWrong F (w .seqs) (w .lists) ≡ false
+tables-right {F} {w} g = right-sizes F (w .seqs) (w .lists) (fills-exactly F .1 (g .full)) (g .seqs) (g .lists)
 
 -- ── a step
 -- the runner's step of a world
@@ -55,10 +56,10 @@ unfolding unitStep stepRows
 step-is {F} {w} g = ap (λ (c : ℕ). unitStepBy c (w .unit) (runnerStep w)) none
   where
     none : firstCode (stepRows F (w .unit) (w .seqs) (w .lists)) ≡ 0
-    none = rw (tables-right g, order-in (g .fair) (w .unit) (g .order))
+    none = rw (tables-right g, order-in (fair-in (g .full)) (w .unit) (g .order))
 
 pub step-shows : {F : Format} {w : World F} → Steady w → StepInRange F (runnerStep w)
-step-shows {F} {w} g = step-range (envOf F (w .lists)) (g .room) (w .seqs) (w .unit .runner) (g .order .runner)
+step-shows {F} {w} g = step-range (envOf F (w .lists)) (room-in (g .full)) (w .seqs) (w .unit .runner) (g .order .runner)
 
 -- only a unit that runs runs after a step
 pub still-running : (E : Env) (seqs : List ℕ) (s : Runner) → stepOf E seqs s .runner .running ≡ true → s .running ≡ true
@@ -140,11 +141,10 @@ pub steady-after : {F : Format} {w : World F} (a : Action) → Steady w → Stea
 unfolding withStep answerOf
 steady-after {F} {w} step g =
     subst (λ (u : ControlUnit). Steady {F = F} (world u (w .seqs) (w .lists))) (sym (step-unit g))
-    (record { fair = g .fair; room = g .room; seqs = g .seqs; lists = g .lists; order = with-step-order g; free = g .free })
+    (record { full = g .full; seqs = g .seqs; lists = g .lists; order = with-step-order g; free = g .free })
 steady-after {F} {w} (packet out time bytes) g =
     record {
-      fair = g .fair;
-      room = g .room;
+      full = g .full;
       seqs = packet-sizes F _ (w .seqs) (w .lists) out bytes .0 ∙ g .seqs;
       lists = packet-sizes F _ (w .seqs) (w .lists) out bytes .1 ∙ g .lists;
       order = packet-order F (w .unit) (w .seqs) (w .lists) out bytes (g .order);
@@ -165,8 +165,8 @@ power-on-order room =
       auto = λ r. absurd (false≢true r);
     }
 
-pub steady : {F : Format} {w : World F} → Fair F → 4 < F .size → Reached ours w → Steady w
+pub steady : {F : Format} {w : World F} → Fills F → Reached ours w → Steady w
 unfolding powerOn
-steady fair room (powered seqs lists s l) = record { fair = fair; room = room; seqs = s; lists = l; order = power-on-order room; free = inl refl }
-steady fair room (lent seqs lists s l r) = let g = steady fair room r in record { fair = fair; room = room; seqs = s; lists = l; order = g .order; free = g .free }
-steady fair room (acted a r) = steady-after a (steady fair room r)
+steady full (powered seqs lists s l) = record { full = full; seqs = s; lists = l; order = power-on-order (room-in full); free = inl refl }
+steady full (lent seqs lists s l r) = let g = steady full r in record { full = full; seqs = s; lists = l; order = g .order; free = g .free }
+steady full (acted a r) = steady-after a (steady full r)

@@ -7,7 +7,7 @@ use mathlib.Core.Bool.{true, false}
 use mathlib.Core.Logic.{inl, inr}
 use borrow.Author.Tests.{eqb-false}
 use Rattle.memory.specs.declared.Format.{Format}
-use Rattle.memory.specs.Memory.{Fair}
+use Rattle.memory.proofs.Laws.{Fair}
 use Rattle.unit.specs.declared.Unit.{Unit as ControlUnit}
 use Rattle.unit.specs.State.{isNone, outOfRange}
 use Rattle.promises.specs.Range.{RunnerInRange}

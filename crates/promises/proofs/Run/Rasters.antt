@@ -8,7 +8,8 @@ use mathlib.Core.List.{List, [], _∷_}
 use lib.Dec.{ltb, eqb}
 use borrow.Author.Tests.{lt-ltb, eq-eqb, ne-eqb, ltb-true}
 use Rattle.octets.proofs.Bools.{and-both}
-use Rattle.memory.specs.Memory.{Fair, placeAt}
+use Rattle.memory.specs.Memory.{placeAt}
+use Rattle.memory.proofs.Laws.{Fair}
 use Rattle.sequence.specs.declared.RasterWords.{RasterWords}
 use Rattle.sequence.specs.Text.{sizeAt}
 use Rattle.sequence.specs.Raster.{rasterAt, startOf}

@@ -7,7 +7,7 @@ use mathlib.Core.Bool.{false}
 use mathlib.Core.List.{List, [], _∷_, _++_, append-assoc, append-nil}
 use mathlib.Core.Logic.{_⊎_, inl, inr, ⊎-elim}
 use lib.Dec.{ltb}
-use Rattle.memory.specs.Memory.{Fair}
+use Rattle.memory.proofs.Laws.{Fair}
 use Rattle.sequence.specs.Text.{fault, sizeAt}
 use Rattle.sequence.specs.Raster.{rasterAt, startOf}
 use Rattle.sequence.specs.Env.{Env, textOf}

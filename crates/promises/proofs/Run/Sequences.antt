@@ -4,7 +4,7 @@ use Prim.Native.Nat.{ℕ}
 use mathlib.Core.Path.{refl, sym, subst}
 use mathlib.Core.List.{List, []}
 use Rattle.octets.specs.Bytes.{byteAt}
-use Rattle.memory.specs.Memory.{Fair}
+use Rattle.memory.proofs.Laws.{Fair}
 use Rattle.sequence.specs.Env.{Env, textOf}
 use Rattle.runner.specs.declared.OpenRaster.{OpenRaster}
 use Rattle.runner.specs.declared.Runner.{Runner}

@@ -14,7 +14,8 @@ use Rattle.octets.specs.Rows.{Row, row, firstCode, NoneHolds, FirstBears, coded
 use Rattle.octets.proofs.Laws.{none-holds, first-bears}
 use Rattle.memory.specs.declared.Format.{Format}
 use Rattle.memory.specs.declared.Place.{Place}
-use Rattle.memory.specs.Memory.{Fair, placeAt}
+use Rattle.memory.specs.Memory.{placeAt}
+use Rattle.memory.proofs.Laws.{Fair}
 use Rattle.sequence.specs.declared.Command.{Command}
 use Rattle.sequence.specs.declared.Command.the-variants.{RunRaster, Expose, LoopBack, CallSequence, Terminate, Delay, Nothing, Unknown, Unfit}
 use Rattle.sequence.specs.declared.Header.{Header}

@@ -3,6 +3,7 @@
 use borrow.Author.Needs.{needs}
 use native.Mathlib.Omega.{arith}
 use mathlib.Core.Path.{subst}
+use Rattle.memory.proofs.Laws.{fair-of}
 use Rattle.sequence.specs.Env.{envOf}
 use Rattle.survey.specs.Held.{LowCall, unmarked}
 use Rattle.survey.proofs.Chains.{room, Visit, of-entry, close-stop, close-back, close-next, seq-fault, next-low, next-fits, next-kept, next-fewer, seq-next}
@@ -84,7 +85,7 @@ module _ (t : ℕ) (w : check-sequence-lts.After-check-text (check-sequence-call
   visit : Visit (start .args .format) (start .args .lists .now) (start .args .seqs .now) (start .args .t5) (start .args .n) (w .check-text .result)
   visit =
       record {
-        fair = start .pre .1 .0;
+        fair = fair-of (start .args .format) (start .pre .1 .0);
         octets = λ k. w .before .before .before .shared-slice-known .given k .fits;
         free = start .pre .1 .1;
         found = of-entry (start .args .format) (start .args .lists .now) (start .args .seqs .now) (start .args .n) _ _ (w .before .entry .ensures) (w .check-text .ensures);

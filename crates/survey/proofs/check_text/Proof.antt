@@ -1,29 +1,33 @@
 -- `check_text` meets its contract: an entry that can't be entered, or all rounds of its walk. Assumes nothing.
+use Rattle.memory.proofs.Laws.{Fair, fair-of}
 use Rattle.survey.proofs.Laws.{cut-short, round-most, one-unfit, one-rounds}
 use Rattle.sequence.specs.Env.{Env, envOf}
 use borrow.Author.Needs.{needs}
 use Rattle.survey.proofs.check_text.Statement.{statement}
 use Rattle.survey.proofs.check_text.Tie as tie
 
--- what the text is read in
+-- what the text is read in, and that there is room for it
 abbrev env : tie.Start → Env
 env s = envOf (s .args .format) (s .args .lists .now)
 
+room : (s : tie.Start) → Fair (s .args .format)
+room s = fair-of (s .args .format) (s .pre)
+
 walk-requires : tie.Need-walk-requires
 walk-requires c κs = let p = c .before .before .before .before in let s = p .before .before .before .before in
-    (s .pre, cut-short (env s) (s .pre) (s .args .text .now) _ (p .part .ensures))
+    (s .pre, cut-short (env s) (room s) (s .args .text .now) _ (p .part .ensures))
 
 all-rounds-requires : tie.Need-all-rounds-requires
 all-rounds-requires c κs = let p = c .before .before .before .before .before in let s = p .before .before .before .before in
-    round-most (env s) (s .pre) (s .args .text .now) _ (p .part .ensures) (λ k. p .before .before .before .shared-slice-known .given k .fits) _ (c .walk .ensures)
+    round-most (env s) (room s) (s .args .text .now) _ (p .part .ensures) (λ k. p .before .before .before .shared-slice-known .given k .fits) _ (c .walk .ensures)
 
 returns : tie.Need-returns
 returns c = let p = c .before .before .before .before in let s = p .before .before .before .before in
-    one-unfit (env s) (s .pre) (s .args .text .now) _ (p .part .ensures) _ (c .before .before .before .header-of .ensures) _ (c .before .fault .given .1)
+    one-unfit (env s) (room s) (s .args .text .now) _ (p .part .ensures) _ (c .before .before .before .header-of .ensures) _ (c .before .fault .given .1)
 
 returns-2 : tie.Need-returns-2
 returns-2 c = let h = c .before .before .before .before .before in let p = h .before in let s = p .before .before .before .before in
-    one-rounds (env s) (s .pre) (s .args .text .now) _ (p .part .ensures) _ (h .header-of .ensures) _ _ _ (c .before .before .before .repeats .given .1) (c .before .walk .ensures) (c .all-rounds .ensures)
+    one-rounds (env s) (room s) (s .args .text .now) _ (p .part .ensures) _ (h .header-of .ensures) _ _ _ (c .before .before .before .repeats .given .1) (c .before .walk .ensures) (c .all-rounds .ensures)
 
 pub check-text-spec : {M : Type 1} → statement M
 check-text-spec =

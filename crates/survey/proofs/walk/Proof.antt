@@ -6,6 +6,7 @@ use native.Mathlib.Nat.{le-trans}
 use mathlib.Core.Path.{refl, _∙_}
 use mathlib.Core.Logic.{⊎-elim}
 use borrow.Author.Needs.{needs}
+use Rattle.memory.proofs.Laws.{fair-of}
 use Rattle.sequence.specs.Env.{cardsOf}
 use Rattle.runner.specs.declared.Act.the-variants.{Refused, Opens, Exposes, Loops, Waits, Calls, Ends}
 use Rattle.survey.proofs.Laws.{placed-at, placed-outside, Going, Turn, going-start, going-none, going-outside, told, comes-whole, going-on, going-fits, pause-most}
@@ -32,14 +33,14 @@ module _ (j : tie.After-judge Inv-loop μ-loop) where
         going = loop .loop .inv;
         octets = λ k. loop .before .before .shared-slice-known .given k .fits;
         some = j .before .before .before .before .before .loop-test .taken;
-        fair = start .pre .0;
+        fair = fair-of (start .args .format) (start .pre .0);
         here = placed-at (start .args .format) _ _ (j .before .before .before .before .of .ensures) _ (j .before .before .at .given .1);
         fits = j .judge .ensures .1;
         judged = j .judge .ensures .0;
       }
 
 loop-holds : tie.Need-loop-holds Inv-loop μ-loop
-loop-holds c = let s = c .before .before in going-start _ _ (le-trans (s .pre .1) (s .pre .0 .size))
+loop-holds c = let s = c .before .before in going-start _ _ (le-trans (s .pre .1) (fair-of (s .args .format) (s .pre .0) .size))
 
 returns : tie.Need-returns Inv-loop μ-loop
 returns c = let l = c .before .before .before .before .loop in let s = c .before .before .before .before .before .before .before in

@@ -1,19 +1,20 @@
--- The invariant keeps the lent slices' lengths; the sequences left fall.
+-- The invariant keeps the lent slices' lengths, and that the last number is a byte; the sequences left fall.
 use borrow.Author.Needs.{needs}
-use Prim.Native.Nat.{_-_}
+use Prim.Native.Nat.{_-_, _≤_}
 use mathlib.Core.Path.{_≡_, refl}
+use native.Mathlib.Omega.{arith}
 use lib.ListN.{length}
 use Rattle.tablecheck.proofs.show_all.Statement.{statement}
 use Rattle.tablecheck.proofs.show_all.Tie as tie
 
 abbrev Inv-loop : tie.InvT-loop
-Inv-loop seqs lists word₀ text₀ n₀ word text n = (length word ≡ length word₀) × (length text ≡ length text₀)
+Inv-loop kind seqs lists word₀ text₀ last n₀ word text n = (length word ≡ length word₀) × (length text ≡ length text₀) × (last ≤ 255)
 
 abbrev μ-loop : tie.MeasureT-loop
-μ-loop seqs lists word₀ text₀ n₀ word text n = 128 - n
+μ-loop kind seqs lists word₀ text₀ last n₀ word text n = 256 - n
 
 loop-holds : tie.Need-loop-holds Inv-loop μ-loop
-loop-holds c = (refl, refl)
+loop-holds c = (refl, refl, omega (arith, c .struct-known .given))
 
 pub show-all-spec : {M : Type 1} → statement M
 show-all-spec =
@@ -21,8 +22,9 @@ show-all-spec =
     (tie.spec
     Inv-loop
     μ-loop
-    loop-holds
+    (λ c κs. search needs)
     (λ c. search needs)
+    loop-holds
     (λ c κs. search needs)
     (λ c κs. search needs)
     (λ c κs. search needs)

@@ -10,9 +10,11 @@ use lib.Dec.{eqb}
 use borrow.Author.Tests.{eq-eqb, ne-eqb, eqb-true}
 use Rattle.octets.proofs.Bools.{choice}
 use Rattle.sequence.specs.Starts.{among}
+use Rattle.survey.specs.declared.Closing.the-variants.{Terminates, CallsOn}
 use Rattle.survey.specs.declared.Ending.the-variants.{Returns}
-use Rattle.survey.specs.Walk.{Finding}
+use Rattle.survey.specs.Walk.{Finding, passes, faults}
 use Rattle.survey.specs.Chain.{Told, told, onward, follow}
+use Rattle.survey.proofs.Names.{Low}
 
 -- how many numbers below k are not among these names
 unfoldable pub unlisted : ℕ → List ℕ → ℕ
@@ -84,3 +86,29 @@ unfolding follow
 follow-all found P none front zero before n = none before
 follow-all found P none front (suc f) before n =
     choice (P before) (among n before) _ _ (λ _. none before) (λ e. front before n (λ m. follow found f (n ∷ before) m) e (λ m. follow-all found P none front f (n ∷ before) m))
+
+-- turns beyond those that list every number up to the last change nothing
+module _ (last : ℕ) (found : ℕ → Finding) (lows : (n : ℕ) → Low last (found n)) where
+  onward-same : (go more : ℕ → Told) → ((m : ℕ) → m ≤ last → more m ≡ go m) → (n : ℕ) (w : Finding) → Low last w → onward more n w ≡ onward go n w
+  unfolding onward
+  onward-same go more h n (passes k x is p Terminates) l = refl
+  onward-same go more h n (passes k x is p (CallsOn m)) l = rw (h m l)
+  onward-same go more h n (faults f reason) l = refl
+
+  pub follow-enough : (f g : ℕ) (names : List ℕ) (n : ℕ) → f ≤ g → n ≤ last → unlisted (suc last) names ≤ f → follow found g names n ≡ follow found f names n
+  unfolding follow
+  follow-enough zero zero names n h l u = refl
+  follow-enough zero (suc g) names n h l u = rw (all-listed (suc last) n names u (omega arith))
+  follow-enough (suc f) zero names n h l u = absurd (omega arith)
+  follow-enough (suc f) (suc g) names n h l u = go (among n names) refl (λ m. follow-enough f g (n ∷ names) m)
+    where
+      onwards : ℕ → Told
+      onwards turns = onward (λ m. follow found turns (n ∷ names) m) n (found n)
+
+      go : (b : Bool) → among n names ≡ b
+          → ((m : ℕ) → f ≤ g → m ≤ last → unlisted (suc last) (n ∷ names) ≤ f → follow found g (n ∷ names) m ≡ follow found f (n ∷ names) m)
+          → cond b (told [] Returns 0 0) (onwards g) ≡ cond b (told [] Returns 0 0) (onwards f)
+      go true e ih = refl
+      go false e ih =
+          let w = unlisted-less (suc last) n names (omega arith) e in
+          onward-same (λ m. follow found f (n ∷ names) m) (λ m. follow found g (n ∷ names) m) (λ m k. ih m (omega arith) k (omega arith)) n (found n) (lows n)
