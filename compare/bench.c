@@ -1,7 +1,7 @@
 /*
  * The time of each call in both libraries, side by side. For each row the two take turns in batches of
  * part of a millisecond, and the least of all batches is shown: the machine's other work can only add.
- * A row's time has in it the copy of 32 bytes that puts the state back before each call. Each row is
+ * A row's time has in it the copy of 36 bytes that puts the state back before each call. Each row is
  * printed as its name, proved and plain nanoseconds, with tabs between.
  *
  * bench ROW SIDE TIMES makes the calls of one row, from 0, that often in one library (SIDE k or p), and prints
@@ -181,7 +181,7 @@ static void start(bool running)
 static void chain_row(unsigned n)
 {
     char name[40];
-    make_ring(PLAIN_NEW, seqs, lists, n, 0);
+    make_ring(PLAIN_NEW, seqs, lists, n, 0, 0);
     snprintf(name, sizeof name, "check, a sequence of a chain of %u", n);
     row_of_many(name, keel_one_check, plain_one_check, n);
 }
@@ -210,7 +210,7 @@ int main(int argc, char **argv)
         count.keel = argv[2][0] == 'k';
         count.times = strtoul(argv[3], NULL, 10);
     }
-    make_ring(PLAIN_NEW, seqs, lists, 128, 0);
+    make_ring(PLAIN_NEW, seqs, lists, 128, 0, 0);
     memcpy(uplink + 5, seqs, 128);
     start(false);
     packet_row("status", status, sizeof status);
@@ -232,13 +232,18 @@ int main(int argc, char **argv)
     chain_row(16);
     chain_row(64);
     chain_row(128);
-    make_ring(PLAIN_NEW, seqs, lists, 128, PLAIN_AEC);
+    make_ring(PLAIN_NEW, seqs, lists, 128, PLAIN_AEC, 0);
     step_row("step: run raster with a flag", PLAIN_RASTER, 8);
     row("check of 128, a flag in each raster", keel_one_check, plain_one_check);
     now.kind = PLAIN_OLD;
-    make_ring(PLAIN_OLD, seqs, lists, 64, 0);
+    make_ring(PLAIN_OLD, seqs, lists, 64, 0, 0);
     start(true);
     row("1,000 steps of a run, old kind", keel_run, plain_run);
     row("check of 64 full sequences, old kind", keel_one_check, plain_one_check);
+    now.kind = PLAIN_NEW;
+    make_ring(PLAIN_NEW, seqs, lists, 128, 0, 0x05);
+    /* Here a round has 24 run rasters: the last repeat of the last raster begins with a shift. */
+    step_row("step: run raster with ASRC", PLAIN_RASTER, 24);
+    row("check of 128, ASRC in each raster", keel_one_check, plain_one_check);
     return 0;
 }

@@ -44,6 +44,7 @@ enum { NO_KIND = PLAIN_OLD + 1, KINDS };
 static struct {
     unsigned long packets, steps, far, checks;
     unsigned long codes[18], events[12], aborts[16], passes[3], faults[16], reasons[5], refused[17];
+    unsigned long shifts[3], asrc_aborts[16], begun, asrc_passes, asrc_faults[16];
     unsigned longest_chain;
 } seen[KINDS];
 static struct {
@@ -196,6 +197,45 @@ static void packet(size_t length)
     seen[counted()].codes[p & 0xFF]++;
 }
 
+/* The ASRC byte of the run raster that stands at this place; NULL if none does, or if it is off. */
+static uint8_t *asrc_at(unsigned sequence, unsigned place)
+{
+    uint8_t *text = plain.seqs + make_entry(now.kind) * sequence;
+    return place + 23 < text[0] && text[place] == 0x90 && text[place + 14] != 0 ? text + place + 14 : NULL;
+}
+
+/* What the plain step under way answers from another state. */
+static uint64_t step_from(uint8_t *state)
+{
+    return plain_step(now.kind, state, PLAIN_STATE, plain.seqs, PLAIN_SEQUENCES, plain.lists, PLAIN_LINE_LISTS);
+}
+
+/* An abort is for ASRC if it is another step with that off; for the repeat begun, if so with repeat 0. */
+static void count_abort(unsigned of, uint64_t answer)
+{
+    unsigned code = answer >> 16 & 0xFFFF;
+    uint8_t state[PLAIN_STATE], *asrc = asrc_at(now.before[16], now.before[17]), kept;
+
+    seen[of].aborts[code]++;
+    if ((code != 3 && code != 14) || asrc == NULL)
+        return;
+    kept = *asrc;
+    *asrc = 0;
+    memcpy(state, now.before, PLAIN_STATE);
+    seen[of].asrc_aborts[code] += step_from(state) != answer;
+    *asrc = kept;
+    memcpy(state, now.before, PLAIN_STATE);
+    memset(state + 32, 0, 2);
+    seen[of].begun += step_from(state) != answer;
+}
+
+/* A raster begun, by its shift: none, forward, backward. */
+static void count_raster(unsigned of)
+{
+    const uint8_t *shift = plain.state + 34;
+    seen[of].shifts[shift[0] > 127 ? 2 : shift[0] + shift[1] > 0]++;
+}
+
 /* Answers whether the unit goes on. */
 static bool step(void)
 {
@@ -211,13 +251,59 @@ static bool step(void)
     if (p != PLAIN_IDLE && (p & 0xFF) < PLAIN_ABORT && now.before[17] > 127)
         seen[of].far++;
     if ((p & 0xFF) == PLAIN_ABORT)
-        seen[of].aborts[p >> 16 & 0xFFFF]++;
+        count_abort(of, p);
+    if ((p & 0xFF) == PLAIN_RASTER)
+        count_raster(of);
     return p != PLAIN_IDLE && (p & 0xFF) != PLAIN_REFUSED;
+}
+
+/* A fault is for ASRC if the check of its sequence, with that off and the XOR made good, has another or none. */
+static void count_fault(unsigned of)
+{
+    uint8_t report[PLAIN_REPORT], kept, *asrc = asrc_at(plain.report[2], plain.report[3]), *last;
+    unsigned code = plain.report[0];
+
+    seen[of].faults[code]++;
+    seen[of].reasons[plain.report[4]]++;
+    if ((code != 3 && code != 14) || asrc == NULL)
+        return;
+    last = plain.seqs + make_entry(now.kind) * plain.report[2];
+    last += *last - 1;
+    kept = *asrc;
+    *asrc = 0;
+    *last ^= kept;
+    plain_check(now.kind, plain.seqs, PLAIN_SEQUENCES, plain.lists, PLAIN_LINE_LISTS, plain.report[2], report,
+                PLAIN_REPORT);
+    seen[of].asrc_faults[code] += memcmp(report, plain.report, 4) != 0;
+    *asrc = kept;
+    *last ^= kept;
+}
+
+/* Whether a sequence that passes has a raster with ASRC on. */
+static bool has_asrc(const uint8_t *text)
+{
+    static const uint8_t sizes[] = {23, 3, 2, 2, 1, 3};
+    for (unsigned at = 4; at + 1u < text[0]; at += sizes[text[at] - 0x90])
+        if (text[at] == 0x90 && text[at + 14] != 0)
+            return true;
+    return false;
+}
+
+static void count_pass(unsigned of)
+{
+    unsigned count = plain.report[6] * 256u + plain.report[7], i = 0;
+
+    seen[of].passes[plain.report[1]]++;
+    if (count > seen[of].longest_chain)
+        seen[of].longest_chain = count;
+    while (i < count && !has_asrc(plain.seqs + make_entry(now.kind) * plain.report[24 + i]))
+        i++;
+    seen[of].asrc_passes += i < count;
 }
 
 static void check(uint32_t number)
 {
-    unsigned of = counted(), count;
+    unsigned of = counted();
     uint32_t k, p;
 
     begin("check");
@@ -233,15 +319,10 @@ static void check(uint32_t number)
         seen[of].refused[p]++;
         return;
     }
-    if (plain.report[1] == PLAIN_FAULT) {
-        seen[of].faults[p]++;
-        seen[of].reasons[plain.report[4]]++;
-        return;
-    }
-    seen[of].passes[plain.report[1]]++;
-    count = plain.report[6] * 256u + plain.report[7];
-    if (count > seen[of].longest_chain)
-        seen[of].longest_chain = count;
+    if (plain.report[1] == PLAIN_FAULT)
+        count_fault(of);
+    else
+        count_pass(of);
 }
 
 /* ---- Rounds ---- */
@@ -351,16 +432,22 @@ static void show_kind(unsigned of)
     static const char *const events[] = {"IDLE", "ENTER", "RASTER", "EXP", "LOOP",  "NEXT",
                                          "DONE", "WAIT",  "CALL",   "END", "ABORT", "refused"};
     static const char *const ends[] = {"nothing", "ends", "returns"};
+    static const char *const shifts[] = {"none", "forward", "backward"};
 
     printf("kind %u\n", of);
     printf("packets    %10lu\n", seen[of].packets);
     row("by code", NULL, seen[of].codes, 18);
     printf("steps      %10lu, %lu of them obeyed at a place above 127\n", seen[of].steps, seen[of].far);
     row("by event", events, seen[of].events, 12);
+    row("rasters by shift", shifts, seen[of].shifts, 3);
     row("aborts by code", NULL, seen[of].aborts, 16);
+    row("aborts for ASRC", NULL, seen[of].asrc_aborts, 16);
+    printf("  aborts for the repeat begun alone  %lu\n", seen[of].begun);
     printf("checks     %10lu, the longest chain that passes has %u\n", seen[of].checks, seen[of].longest_chain);
     row("passes", ends, seen[of].passes, 3);
+    printf("  passes with ASRC in the chain  %lu\n", seen[of].asrc_passes);
     row("faults by code", NULL, seen[of].faults, 16);
+    row("faults for ASRC", NULL, seen[of].asrc_faults, 16);
     row("faults by reason", NULL, seen[of].reasons, 5);
     row("refused by code", NULL, seen[of].refused, 17);
 }

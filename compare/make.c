@@ -182,17 +182,72 @@ static unsigned few_or_many(unsigned few, unsigned most)
     return taste.large && chance(30) ? between(1, most) : between(1, few);
 }
 
+/* A run raster's ASRC byte and skip, and the lowest and the highest initial position that keep all its
+ * repeats in the mirror's range. */
+struct asrc {
+    unsigned byte, skip, lowest, highest;
+};
+
+/* ASRC that is off; the skip may be any then. */
+static struct asrc no_asrc(unsigned room)
+{
+    struct asrc a = {0, chance(30) ? 0 : any(256), 0, room};
+    return a;
+}
+
+/* ASRC that is on, if in so many repeats at least one step at a time has room; often all the steps that have. */
+static struct asrc some_asrc(unsigned repeats, unsigned room)
+{
+    struct asrc a = {0, chance(70) ? between(1, 3) : between(1, 255), 0, room};
+    unsigned moves = (repeats - 1) / a.skip, most, steps;
+
+    if (moves > room || chance(10)) {
+        a.skip = between(200, 255);
+        moves = (repeats - 1) / a.skip;
+    }
+    if (moves > room)
+        return no_asrc(room);
+    most = moves == 0 || room / moves > 127 ? 127 : room / moves;
+    steps = chance(20) ? most : between(1, most);
+    a.byte = steps | any(2) << 7;
+    if (a.byte & 0x80)
+        a.lowest = steps * moves;
+    else
+        a.highest = room - steps * moves;
+    return a;
+}
+
+/* ASRC with no steps, with no skip, or any. */
+static void spoil_asrc(struct asrc *a)
+{
+    switch (any(4)) {
+    case 0: a->byte = 0x80; break;
+    case 1: a->byte = between(1, 255); a->skip = 0; break;
+    case 2: a->skip = any(3); break;
+    default: a->byte = any(256); a->skip = any(256);
+    }
+}
+
+/* An initial position with which a repeat leaves the range, be it the last alone. */
+static unsigned bad_initial(const struct asrc *a)
+{
+    if (a->lowest > 0 && chance(50))
+        return chance(70) ? a->lowest - 1 : any(a->lowest);
+    return chance(70) ? a->highest + 1 : between(END_STOP + 1, 65535);
+}
+
 /* A run raster's 23 bytes. */
 static void put_run_raster(uint8_t *r, unsigned exposures, unsigned damage)
 {
     static const uint8_t flags[] = {0, 0, 0, 0x20, 0x10, 0x08, 0x04, 0x30};
     static const uint8_t two_flags[] = {0x18, 0x0C, 0x24, 0x28, 0x14, 0x38, 0x34, 0x3C};
+    bool shifted = chance(50);
     unsigned loops = few_or_many(4, 65535);
-    unsigned repeats = few_or_many(3, 4095);
-    unsigned step = chance(20) ? 0 : any(END_STOP / loops + 1);
-    unsigned furthest = END_STOP - (loops - 1) * step;
-    unsigned initial = chance(20) ? furthest : any(furthest + 1);
-    unsigned list = any(taste.lists), asrc = 0, flag = flags[any(sizeof flags)];
+    unsigned repeats = few_or_many(shifted ? 5 : 3, 4095);
+    unsigned step = chance(20) ? 0 : any(END_STOP / loops + 1), room = END_STOP - (loops - 1) * step;
+    struct asrc asrc = shifted ? some_asrc(repeats, room) : no_asrc(room);
+    unsigned initial = chance(20) ? asrc.highest : chance(20) ? asrc.lowest : between(asrc.lowest, asrc.highest);
+    unsigned list = any(taste.lists), flag = flags[any(sizeof flags)];
 
     if (chance(damage))
         loops = 0;
@@ -203,11 +258,11 @@ static void put_run_raster(uint8_t *r, unsigned exposures, unsigned damage)
     if (chance(damage))
         list = chance(50) ? LISTS : between(LISTS, 255);
     if (chance(damage))
-        initial = chance(70) ? furthest + 1 : between(END_STOP + 1, 65535);
+        initial = bad_initial(&asrc);
     if (chance(damage))
         step = chance(50) ? END_STOP + 1 : between(END_STOP, 65535);
     if (chance(damage))
-        asrc = between(1, 255);
+        spoil_asrc(&asrc);
     if (chance(damage))
         flag = two_flags[any(sizeof two_flags)];
 
@@ -218,8 +273,9 @@ static void put_run_raster(uint8_t *r, unsigned exposures, unsigned damage)
     word_at(r + 3, initial);
     word_at(r + 5, loops);
     r[13] = (uint8_t)((r[13] & 0xF0) | exposures);
-    r[14] = (uint8_t)asrc;
+    r[14] = (uint8_t)asrc.byte;
     word_at(r + 15, any(16) << 12 | repeats);
+    r[17] = (uint8_t)asrc.skip;
     word_at(r + 19, step);
     r[21] = (uint8_t)list;
     r[22] = (uint8_t)((r[22] & 0xC3) | flag);
@@ -409,7 +465,7 @@ static uint8_t *put(uint8_t *at, const uint8_t *bytes, size_t n)
 }
 
 /* As many rasters as fit, a delay in as many of them, the last ones, as there is room for then. */
-static void put_full_sequence(uint8_t *text, unsigned length, unsigned next, unsigned flags)
+static void put_full_sequence(uint8_t *text, unsigned length, unsigned next, unsigned flags, unsigned asrc)
 {
     static const uint8_t raster[] = {0x90, 0, 7, 0, 100, 0, 2, 0, 0, 0, 0, 2, 1, 1, 0, 0xF0, 2, 0, 3, 0, 10, 0, 0};
     static const uint8_t delay[] = {0x95, 0, 5}, expose[] = {0x91, 0, 100};
@@ -420,8 +476,14 @@ static void put_full_sequence(uint8_t *text, unsigned length, unsigned next, uns
     text[0] = (uint8_t)length;
     text[3] = 1;
     for (unsigned k = rasters; k > 0; k--) {
+        uint8_t *r = at;
         at = put(at, raster, sizeof raster);
-        at[-1] = (uint8_t)flags;
+        r[22] = (uint8_t)flags;
+        if (asrc != 0) {
+            r[14] = (uint8_t)asrc;
+            r[16] = 6;
+            r[17] = 2;
+        }
         if (k <= delays)
             at = put(at, delay, sizeof delay);
         at = put(at, expose, sizeof expose);
@@ -434,7 +496,7 @@ static void put_full_sequence(uint8_t *text, unsigned length, unsigned next, uns
     *at = xor_over(text, length - 1);
 }
 
-void make_ring(uint32_t kind, uint8_t *seqs, uint8_t *lists, unsigned n, unsigned flags)
+void make_ring(uint32_t kind, uint8_t *seqs, uint8_t *lists, unsigned n, unsigned flags, unsigned asrc)
 {
     memset(lists, 0, LIST_ENTRY);
     lists[0] = LIST_ENTRY;
@@ -442,7 +504,7 @@ void make_ring(uint32_t kind, uint8_t *seqs, uint8_t *lists, unsigned n, unsigne
     lists[LIST_ENTRY - 5] = (uint8_t)flags;
     lists[3] = xor_over(lists, LIST_ENTRY);
     for (unsigned i = 0; i < n; i++)
-        put_full_sequence(seqs + formats[kind].entry * i, formats[kind].longest, (i + 1) % n, flags);
+        put_full_sequence(seqs + formats[kind].entry * i, formats[kind].longest, (i + 1) % n, flags, asrc);
 }
 
 /* ---- States ---- */
@@ -451,7 +513,7 @@ void make_ring(uint32_t kind, uint8_t *seqs, uint8_t *lists, unsigned n, unsigne
 enum {
     MODE = 0, ALLOWED = 1, COUNTERS = 2, FAILED_CODE = 8, ABORT_CODE = 10, SELECTION = 15, SEQUENCE = 16,
     PLACE = 17, LINE_LIST = 18, EXPOSURES = 19, MIRROR = 21, RUNNING = 23, ENTERING = 24, RASTER = 25,
-    SET = 26, PASSES = 27, REPEATS = 29, ROUNDS = 31, STATE = 32
+    SET = 26, PASSES = 27, REPEATS = 29, ROUNDS = 31, RUN_NUMBER = 32, SHIFT = 34, STATE = 36
 };
 
 /* Anything in range. */
@@ -482,6 +544,17 @@ static void state_in_range(uint8_t *s)
 static unsigned count_left(unsigned most)
 {
     return chance(80) ? any(4) : any(most + 1);
+}
+
+/* The number of one of a raster's repeats, of one that it does not have, or any. */
+static unsigned some_repeat(unsigned repeats)
+{
+    switch (any(6)) {
+    case 0: return 0;
+    case 1: return repeats + any(8);
+    case 2: return chance(70) ? any(65536) : 65535;
+    default: return any(repeats);
+    }
 }
 
 /* A place where this number stands, be it a command's start or not; 4 if there is none. */
@@ -525,8 +598,14 @@ static void state_in_text(uint8_t *s, const uint8_t *seqs)
     if (text[s[PLACE]] == 0x90 && chance(40))
         raster = s[PLACE];
     s[RASTER] = (uint8_t)raster;
+    if (chance(50))
+        memset(s + RUN_NUMBER, 0, 4);
     if (raster != NONE) {
         unsigned exposures = raster + 13 < entry ? text[raster + 13] & 15 : 1, made = 0;
+        unsigned repeats = raster + 16 < entry ? (text[raster + 15] & 15) << 8 | text[raster + 16] : 1;
+        word_at(s + RUN_NUMBER, some_repeat(repeats));
+        if (chance(50))
+            word_at(s + SHIFT, any(2 * END_STOP + 1) - END_STOP);
         for (unsigned i = 0; i < chosen; i++)
             made += starts[i] > raster && text[starts[i]] == 0x91;
         s[SET] = (uint8_t)(chance(80) ? made : chance(50) ? exposures : any(9));

@@ -34,15 +34,15 @@ void make_tables(uint32_t kind, uint8_t *seqs, uint8_t *lists);
 
 /* A ring of full sequences, 0 to n - 1, each 128 bytes with four rasters, or of the old kind 255 bytes with
  * eight: 2 repeats of 2 loops of an exposure each, and delays; and line list 0, full with 25 windows. All
- * rasters have these science flags, and the last window alone has the marks for them. Nothing in it is
- * random. */
-void make_ring(uint32_t kind, uint8_t *seqs, uint8_t *lists, unsigned n, unsigned flags);
+ * rasters have these science flags, and the last window alone has the marks for them. They also have this
+ * ASRC byte; if it is not 0, skip is 2 and there are 6 repeats. Nothing in it is random. */
+void make_ring(uint32_t kind, uint8_t *seqs, uint8_t *lists, unsigned n, unsigned flags, unsigned asrc);
 
 /* One line list in an entry of 164 bytes, one sequence in an entry of its kind; both return its length. */
 size_t make_line_list(uint8_t *list, unsigned damage);
 size_t make_sequence(uint8_t *text, unsigned own, unsigned damage);
 
-/* The 32 bytes of a state: reached ones, ones that stand somewhere in these tables' sequences, ones
+/* The 36 bytes of a state: reached ones, ones that stand somewhere in these tables' sequences, ones
  * in range that no call makes, ones out of range. */
 void make_state(uint8_t *state, const uint8_t *seqs);
 

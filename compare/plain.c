@@ -26,7 +26,9 @@ enum {
     SET = 26,
     PASSES = 27,
     REPEATS = 29,
-    ROUNDS = 31
+    ROUNDS = 31,
+    RUN_NUMBER = 32, /* of the raster repeat, from 0 */
+    SHIFT = 34       /* of its start, in two's complement */
 };
 
 enum { NONE = 255 };
@@ -116,6 +118,9 @@ enum {
     MOST_EXPOSURES = 8,
     END_STOP = 2400
 };
+
+/* The ASRC byte: 0 for off, else a direction and how many mirror steps. */
+enum { ASRC_OFF = 0, ASRC_BACKWARD = 0x80, ASRC_STEPS = 0x7F };
 
 /* The science flags: the XRT flare trigger, and those that need a mark. */
 enum {
@@ -426,6 +431,7 @@ static unsigned raster_loops(const uint8_t *r) { return word(r + 5); }
 static unsigned raster_exposures(const uint8_t *r) { return r[13] & 0x0F; }
 static unsigned raster_asrc(const uint8_t *r) { return r[14]; }
 static unsigned raster_repeats(const uint8_t *r) { return word(r + 15) & 0x0FFF; }
+static unsigned raster_skip(const uint8_t *r) { return r[17]; }
 static unsigned raster_step(const uint8_t *r) { return word(r + 19); }
 static unsigned raster_list(const uint8_t *r) { return r[21]; }
 static unsigned raster_flags(const uint8_t *r) { return r[22] & SCIENCE_FLAGS; }
@@ -472,8 +478,45 @@ static unsigned entry_fault(const struct format *format, const uint8_t *text, un
     return text[SEQUENCE_REPEATS] == 0 ? NO_REPEATS : 0;
 }
 
-/* A run raster's own tests, in the paper's order, once no other raster is open. */
-static unsigned raster_fault(const uint8_t *r, const uint8_t *lists)
+/* Off, or with steps to move by and a skip. */
+static bool asrc_good(const uint8_t *r)
+{
+    unsigned asrc = raster_asrc(r);
+    return asrc == ASRC_OFF || ((asrc & ASRC_STEPS) != 0 && raster_skip(r) != 0);
+}
+
+/* How far a good ASRC moves the start of repeat k, from 0. */
+static int shift_of(const uint8_t *r, unsigned k)
+{
+    unsigned asrc = raster_asrc(r);
+    int shift;
+    if (asrc == ASRC_OFF)
+        return 0;
+    shift = (int)((asrc & ASRC_STEPS) * (k / raster_skip(r)));
+    return asrc & ASRC_BACKWARD ? -shift : shift;
+}
+
+/* Whether the mirror stays in its range in all repeats and in the one begun. Repeat 0 is not moved, and the others lie
+ * between it and the furthest: those two decide. */
+static bool positions_good(const uint8_t *r, unsigned begun)
+{
+    unsigned first = raster_initial(r), last = first + (raster_loops(r) - 1) * raster_step(r);
+    unsigned furthest;
+    int shift;
+
+    if (first > END_STOP || raster_step(r) > END_STOP || last > END_STOP)
+        return false;
+    if (raster_asrc(r) == ASRC_OFF)
+        return true;
+    furthest = raster_repeats(r) - 1;
+    if (begun > furthest)
+        furthest = begun;
+    shift = shift_of(r, furthest);
+    return (int)first + shift >= 0 && (int)last + shift <= END_STOP;
+}
+
+/* A run raster's own tests, in the paper's order, once no other raster is open, with the repeat begun. */
+static unsigned raster_fault(const uint8_t *r, unsigned begun, const uint8_t *lists)
 {
     const uint8_t *list = lists + LINE_LIST_ENTRY * raster_list(r);
     unsigned flags = raster_flags(r), needed = flags & MARKED;
@@ -485,10 +528,11 @@ static unsigned raster_fault(const uint8_t *r, const uint8_t *lists)
         return BAD_LIST_NUMBER;
     if (plain_line_list(list).number != PLAIN_GOOD)
         return BAD_LINE_LIST;
-    if (raster_initial(r) > END_STOP || raster_step(r) > END_STOP ||
-        raster_initial(r) + (raster_loops(r) - 1) * raster_step(r) > END_STOP)
+    if (!asrc_good(r))
+        return BAD_COMMAND;
+    if (!positions_good(r, begun))
         return PAST_END_STOP;
-    if (raster_asrc(r) != 0 || !flags_good(flags))
+    if (!flags_good(flags))
         return BAD_COMMAND;
     if (needed != 0 && (needed & ~plain_marks(list)) != 0)
         return BAD_LINE_LIST;
@@ -558,24 +602,30 @@ static uint64_t enter(const struct format *format, uint8_t *s, const uint8_t *te
 
 static uint64_t run_raster(uint8_t *s, const uint8_t *text, const uint8_t *lists)
 {
-    unsigned place = s[PLACE], code;
+    unsigned place = s[PLACE], begun = s[RASTER] == NONE ? 0 : word(s + RUN_NUMBER), code, start;
     const uint8_t *raster = text + place;
+    int shift;
 
     if (s[RASTER] != NONE && s[RASTER] != place)
         return abort_run(s, BAD_COMMAND, place);
-    code = raster_fault(raster, lists);
+    code = raster_fault(raster, begun, lists);
     if (code != 0)
         return abort_run(s, code, place);
 
-    if (s[RASTER] == NONE)
+    shift = shift_of(raster, begun);
+    start = (unsigned)((int)raster_initial(raster) + shift);
+    if (s[RASTER] == NONE) {
         put_word(s + REPEATS, raster_repeats(raster));
+        put_word(s + RUN_NUMBER, 0);
+    }
     s[RASTER] = (uint8_t)place;
     s[SET] = 0;
     put_word(s + PASSES, raster_loops(raster));
-    put_word(s + MIRROR, raster_initial(raster));
+    put_word(s + SHIFT, (unsigned)shift);
+    put_word(s + MIRROR, start);
     s[LINE_LIST] = (uint8_t)raster_list(raster);
     s[PLACE] = (uint8_t)(place + RUN_RASTER_SIZE);
-    return event(PLAIN_RASTER, raster_id(raster), raster_initial(raster), 0);
+    return event(PLAIN_RASTER, raster_id(raster), start, 0);
 }
 
 static uint64_t expose(const struct format *format, uint8_t *s, const uint8_t *text)
@@ -613,6 +663,7 @@ static uint64_t loop_back(const struct format *format, uint8_t *s, const uint8_t
     if (repeats > 1) {
         s[PLACE] = s[RASTER];
         put_word(s + REPEATS, repeats - 1);
+        add_one(s + RUN_NUMBER);
         return event(PLAIN_NEXT, 0, 0, 0);
     }
     s[RASTER] = NONE;
@@ -747,7 +798,7 @@ static unsigned check_sequence(const struct format *format, const uint8_t *text,
                 return BAD_COMMAND;
             raster = text + place;
             set = 0;
-            code = raster_fault(raster, lists);
+            code = raster_fault(raster, 0, lists);
             if (code == BAD_LINE_LIST)
                 f->reason = list_reason(lists + LINE_LIST_ENTRY * raster_list(raster));
             if (code != 0)

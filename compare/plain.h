@@ -1,8 +1,8 @@
 /*
- * The control unit in plain C, written from document 01 alone, P4's reasons, P1's marks and P10's kinds
- * added: it shares no text with the proved library, and stands beside it to be compared. The four calls,
- * the lent bytes and the answers are those of keel.h, under other names; the test of a line list and its
- * marks are for the desk's table check.
+ * The control unit in plain C, written from document 01 alone, P4's reasons, P1's marks, P10's kinds and
+ * P5's shift added: it shares no text with the proved library, and stands beside it to be compared. The
+ * four calls, the lent bytes and the answers are those of keel.h, under other names; the test of a line
+ * list and its marks are for the desk's table check.
  */
 #ifndef PLAIN_H
 #define PLAIN_H
@@ -12,7 +12,7 @@
 
 /* Sizes of what the caller lends. The output may be longer. */
 enum {
-    PLAIN_STATE = 32,
+    PLAIN_STATE = 36,
     PLAIN_SEQUENCES = 16384,
     PLAIN_LINE_LISTS = 7872,
     PLAIN_OUTPUT = 16384,

@@ -11,7 +11,8 @@
 # By name alone:
 #   baseline         the same as bench, and its rows are kept in compare/baseline.txt
 #   vectors FOLDER   the proved programs on the folder's desk-N.in and tables-N.bin; says how many are equal, the reasons of faults
-#                    with code 7 left out, and how many were moved by a request: those that are as the plain programs have them
+#                    with code 7 left out, and how many were moved by P1's and P5's rules: those that are as the plain programs
+#                    have them. Then tablecheck on its core-new-N.bin and core-old-N.bin: these are equal to the byte
 #   counts           one table of instructions, proved and plain, counted by the emulator: the same on every machine that has it
 #   unproved STAGE.. library, bench and counts take the library as its sources stand, compiled without its proofs
 # All programs are for x86-64, built by the same compiler as the proved ones, and run with its C library;
@@ -204,7 +205,7 @@ stage_counts() {
     local row name things side one
     [ -n "$emulated" ] || { echo "run.sh: counts wants the emulator" >&2; return 2; }
     build_library
-    for row in {0..20}; do
+    for row in {0..22}; do
         IFS=$'\t' read -r name things < <(run "$build/library/bench" "$row" k 0)
         one="$name"
         for side in k p; do
@@ -273,7 +274,8 @@ stage_surveys() {
 }
 
 # Runs PROGRAM on INPUT and counts it. WANTED is document 01's: the reason, which P4 puts at the end of a fault with code 7, is cut off
-# there and nowhere else. Equal if that is what it writes; moved if not, but the PLAIN program, which has P1's rules too, writes the same.
+# there and nowhere else. Equal if that is what it writes; moved if not, but the PLAIN program, which has P1's and P5's rules too,
+# writes the same.
 vector() { # PROGRAM PLAIN INPUT WANTED
     local got=$build/vector.out
     all=$((all + 1))
@@ -282,9 +284,20 @@ vector() { # PROGRAM PLAIN INPUT WANTED
         equal=$((equal + 1))
     elif run "$build/$2" <"$3" | cmp -s - "$got"; then
         moved=$((moved + 1))
-        echo "${3##*/}: moved, $(sed '/^FAULT [^ ]* 7 /s/ REASON .*//' "$got" | diff "$4" - | grep -c '^>') of $(wc -l <"$4") lines"
+        echo "${3##*/}: moved by P1's and P5's rules," \
+            "$(sed '/^FAULT [^ ]* 7 /s/ REASON .*//' "$got" | diff "$4" - | grep -c '^>') of $(wc -l <"$4") lines"
     else
         echo "${3##*/}: not equal"
+    fi
+}
+
+# Runs tablecheck with these words on INPUT and counts it. Its .check file has all requests' rules and the reasons: equal to the byte.
+core_vector() { # INPUT WORD..
+    all=$((all + 1))
+    if run target/bin/tablecheck "${@:2}" <"$1" | cmp -s - "${1%.bin}.check"; then
+        equal=$((equal + 1))
+    else
+        echo "${1##*/}: not equal"
     fi
 }
 
@@ -296,7 +309,10 @@ stage_vectors() { # FOLDER
         number=${file##*/tables-}
         vector tablecheck plain_survey "$file" "$1/survey-${number%.bin}.out"
     done
-    echo "vectors: $equal of $all equal, but for the reasons at the ends of the faults with code 7; $moved moved, as the plain programs"
+    for file in "$1"/core-new-*.bin; do core_vector "$file"; done
+    for file in "$1"/core-old-*.bin; do core_vector "$file" old; done
+    echo "vectors: $equal of $all equal, document 01's but for the reasons at the ends of the faults with code 7;" \
+        "$moved moved by P1's and P5's rules, as the plain programs have them"
     [ $((equal + moved)) = "$all" ]
 }
 

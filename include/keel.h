@@ -6,15 +6,16 @@
    lie apart. A pointer needs no alignment. Through the pointer of an empty slice (length 0) nothing is read or written, so it may be
    any, NULL too: the empty packet may be given as NULL, 0.
 
-   state, 32 bytes, words high byte first: 0 mode; 1 mode changes allowed (0 or 1); 2-3 STATUS_PC; 4-5 received; 6-7 failed;
+   state, 36 bytes, words high byte first: 0 mode; 1 mode changes allowed (0 or 1); 2-3 STATUS_PC; 4-5 received; 6-7 failed;
    8 failed code; 9 failed number; 10 abort code; 11-14 log; 15 selection, 255 none; 16 status sequence, 255 none; 17 place;
    18 line list; 19-20 exposures; 21-22 mirror; 23 running (0 or 1); 24 entering (0 or 1); 25 open raster's place, 255 none;
-   26 exposures in the set; 27-28 passes left; 29-30 raster repeats left; 31 rounds left.
+   26 exposures in the set; 27-28 passes left; 29-30 raster repeats left; 31 rounds left; 32-33 run number of the
+   raster repeat, from 0; 34-35 the shift of its start, signed, in two's complement.
 
    kind, of the sequence table: KEEL_FLIGHT, 128 entries of 128 bytes, or KEEL_BENCH, the old unit's 64 of 256. It is given with each call
    and kept nowhere: one run, and the check before it, are under one kind.
 
-   A state not of 32 bytes, tables not of 16,384 and 7,872 bytes, an output below 16,384 bytes or another kind: code 16. A state out of
+   A state not of 36 bytes, tables not of 16,384 and 7,872 bytes, an output below 16,384 bytes or another kind: code 16. A state out of
    range, or a flag byte above 1: code 17. Both leave every lent byte as it was, but that the report of a check says 16 itself. A
    sequence, selected or in the status, is out of range above the kind's last, 127 or 63; a place above 127, on the bench none. */
 #ifndef KEEL_H
@@ -29,7 +30,7 @@ extern "C" {
 #define KEEL_FLIGHT 0
 #define KEEL_BENCH 1
 
-#define KEEL_STATE_SIZE 32
+#define KEEL_STATE_SIZE 36
 #define KEEL_SEQUENCE_TABLE 16384
 #define KEEL_LINE_LIST_TABLE 7872
 #define KEEL_OUTPUT_SIZE 16384

@@ -52,11 +52,11 @@ pub held-high : (lent : Bool) (s : List ℕ) (held : ℕ) → held ≡ heldCode 
 unfolding heldRows
 held-high lent s held e n = rw e (high (stateSized s) lent (flagsWrong s) (λ z. n (e ∙ z)))
 
-pub held-passed : (lent : Bool) (s : List ℕ) → heldCode lent s ≡ 0 → (length s ≡ 32) × ((flagsWrong s ≡ false) × (lent ≡ false))
+pub held-passed : (lent : Bool) (s : List ℕ) → heldCode lent s ≡ 0 → (length s ≡ 36) × ((flagsWrong s ≡ false) × (lent ≡ false))
 unfolding heldRows
 held-passed lent s h =
     let n = none-holds (heldRows lent s) tt h in
-    (eqb-true (length s) 32 (not-false (stateSized s) (n .0)), (n .1 .1 .0, n .1 .0))
+    (eqb-true (length s) 36 (not-false (stateSized s) (n .0)), (n .1 .1 .0, n .1 .0))
 
 -- ── a step
 -- a step that shows an event changes what the event moves in the run and in what the status takes from it

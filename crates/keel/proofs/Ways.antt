@@ -13,6 +13,7 @@ use Rattle.octets.proofs.LayoutLaws.{Octets}
 use Rattle.octets.proofs.Bools.{either}
 use Rattle.memory.specs.declared.Format.{Format}
 use Rattle.memory.specs.Memory.{tablesWrong, written}
+use Rattle.runner.specs.declared.Runner.{Runner}
 use Rattle.runner.specs.declared.Event.{Event}
 use Rattle.runner.specs.declared.Event.the-variants.{Idle}
 use Rattle.runner.specs.Events.{shownAs}
@@ -27,7 +28,7 @@ use Rattle.telecommand.specs.declared.Telecommand.the-variants.{Status, Dump}
 use Rattle.unit.specs.declared.Answer.{Answer}
 use Rattle.unit.specs.declared.Outcome.the-variants.{Denied, Saw}
 use Rattle.unit.specs.declared.UnitStep.{UnitStep}
-use Rattle.unit.specs.State.{powerOn, outOfRange}
+use Rattle.unit.specs.State.{withRunner, powerOn, outOfRange}
 use Rattle.telecommand.specs.Packet.{is, commandOf}
 use Rattle.unit.specs.Packet.{lentWrong, codeOf}
 use Rattle.unit.specs.Status.{statusOf}
@@ -40,6 +41,11 @@ use Rattle.state.proofs.Laws.{load-save, answer-saved, step-saved}
 use Rattle.keel.specs.Calls.{heldCode, packetCode, packetReply, packetAnswer, stateAfter, keptSeqs, keptLists, keptOut, packed, deniedAs, heldStep, stepAnswer, stateStepped}
 use Rattle.keel.specs.Report.{reportBytes}
 use Rattle.keel.proofs.Laws.{held-high, held-passed, Took, took, at-rest}
+
+-- ── the unit
+-- the unit that was read in two parts is the one that the bytes hold
+pub whole : (s : List ℕ) (u : Unit) (r : Runner) → r ≡ unitOf s .runner → u ≡ withRunner r (unitOf s) → u ≡ unitOf s
+whole s u r e f = f ∙ ap (λ (x : Runner). withRunner x (unitOf s)) e
 
 -- ── an answer's length
 reply-short : (k : Telecommand) (u : Unit) (time : ℕ) (seqs lists p : List ℕ) → length (reply k u time seqs lists p) ≤ 16384
@@ -152,9 +158,9 @@ module _ (F : Format) (s seqs lists : List ℕ) where
           sees r e event s' saw (f ∙ rw (same octets) (ap (λ (v : Unit). stepOver event v (stateOf u)) k ∙ step-saved event u (r .unit .runner) ∙ ap stateOf (sym k)))
 
 -- ── power-on
-pub powers : (s : List ℕ) → length s ≡ 32 → written s 0 (stateOf powerOn) ≡ stateOf powerOn
+pub powers : (s : List ℕ) → length s ≡ 36 → written s 0 (stateOf powerOn) ≡ stateOf powerOn
 unfolding stateOf powerOn
-powers s h = simp (h, drop-of-length-le s {i = 32} (omega arith))
+powers s h = simp (h, drop-of-length-le s {i = 36} (omega arith))
 
 -- ── a report
 -- a part written after what is written already

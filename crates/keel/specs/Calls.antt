@@ -1,4 +1,4 @@
--- The calls of the library for C, over the format of the kind that each is given. "A state not of 32 bytes is 16. 16 and 17 leave every lent
+-- The calls of the library for C, over the format of the kind that each is given. "A state not of 36 bytes is 16. 16 and 17 leave every lent
 -- byte as it was."
 use Prim.Native.Nat.{ℕ, _+_, _*_, _^_}
 use mathlib.Core.Bool.{Bool, cond, not}

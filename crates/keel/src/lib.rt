@@ -18,7 +18,7 @@ use survey::Report;
 use unit::Outcome;
 
 // The bytes that hold a state, and those of a report, of which the chain is the last part.
-const STATE: usize = 32;
+const STATE: usize = 36;
 
 const REPORT: usize = 152;
 
@@ -83,7 +83,8 @@ pub extern "C" fn keel_packet(
     if held != 0 {
         return held as u32;
     }
-    let answer = state::unit_of(state).packet(kind, seqs, lists, out, time, packet);
+    let unit = state::unit_of(state, state::runner_of(state));
+    let answer = unit.packet(kind, seqs, lists, out, time, packet);
     state::save_answer(answer, packet, state);
     answer_of(answer.code, answer.size)
 }
@@ -134,7 +135,7 @@ pub extern "C" fn keel_step(kind: u32, state: &mut [u8], seqs: &[u8], lists: &[u
     if held != 0 {
         return denied(held);
     }
-    let unit = state::unit_of(state);
+    let unit = state::unit_of(state, state::runner_of(state));
     if !unit.runner.running {
         if unit.out_of_range(Format::of(kind)) {
             return denied(17);

@@ -1,20 +1,21 @@
 -- Laws of tables of fields, for every table that passes the test `tiles`: its fields come back out of the bytes that spell them, and bytes
 -- that are not wrong come back out of their fields. Assumes nothing.
-use Prim.Native.Nat.{ℕ, zero, suc, _+_, _*_, _/_, _%_, _≤_, _<_}
+use Prim.Native.Nat.{ℕ, zero, suc, _+_, _*_, _-_, _/_, _%_, _≤_, _<_}
 use native.Mathlib.Omega.{arith}
 use native.Mathlib.Numerals.{add-one}
 use native.Mathlib.Nat.{add-zero, div-div-eq-div-mul, div-add-mod', mod-eq-of-lt}
 use mathlib.Core.Path.{_≡_, refl, sym, ap, ap₂, subst, _∙_}
 use mathlib.Core.Bool.{Bool, true, false, not}
 use mathlib.Core.List.{List, [], _∷_, _++_, append-assoc}
-use lib.Dec.{T, eqb, eqb→eq}
+use lib.Dec.{T, ltb, eqb, eqb→eq}
+use lib.IntN.{ℤ, pos, negsuc}
 use lib.ListN.{length, getD, drop, length-append, drop-of-length-le}
 use lib.Seq.{drop-cons, getD-append-add}
-use borrow.Author.Tests.{ltb-false, eqb-true, not-false}
+use borrow.Author.Tests.{lt-ltb, le-ltb, ltb-false, eqb-true, not-false}
 use Rattle.octets.specs.Bytes.{byteAt, wordAt, fourAt, halves}
-use Rattle.octets.specs.Layout.{isSet, flag, Cell, Field, field, spelled, readAt, Fits, unlike, wrongAt, laid, reads, wrong, AllFit, tiles}
-use Rattle.octets.specs.Layout.Cell.{Byte, Word, Four, Flag, Halves, Fixed}
-use Rattle.octets.proofs.Bools.{and-T, or-neither}
+use Rattle.octets.specs.Layout.{isSet, flag, complement, signed, SignedFits, Cell, Field, field, spelled, readAt, Fits, unlike, wrongAt, laid, reads, wrong, AllFit, tiles}
+use Rattle.octets.specs.Layout.Cell.{Byte, Word, Four, Signed, Flag, Halves, Fixed}
+use Rattle.octets.proofs.Bools.{and-T, or-neither, by-test}
 
 -- every element is a byte
 abbrev pub Octets : List ℕ → Type 0
@@ -39,6 +40,20 @@ flag-byte zero h = refl
 flag-byte (suc zero) h = refl
 flag-byte (suc (suc n)) h = absurd (omega arith)
 
+-- a signed word and its two's complement come back out of each other
+complement-signed : (n : ℕ) → n < 65536 → complement (signed n) ≡ n
+complement-signed n h = by-test (ltb n 32768) (λ e. rw e) (λ e. rw e (omega arith))
+
+signed-complement : (z : ℤ) → SignedFits z → signed (complement z) ≡ z
+signed-complement (pos n) h = rw (lt-ltb n 32768 h)
+signed-complement (negsuc n) h =
+    let e : 65535 - (65535 - n) ≡ n = omega arith in
+    rw (le-ltb (65535 - n) 32768 (omega arith)) (ap negsuc e)
+
+complement-fits : (z : ℤ) → SignedFits z → complement z < 65536
+complement-fits (pos n) h = omega arith
+complement-fits (negsuc n) h = omega arith
+
 alike : (bs : List ℕ) (at : ℕ) (s : List ℕ) → unlike bs at s ≡ false → bs ≡ bytesAt s at (length bs)
 alike [] at s e = refl
 alike (b ∷ bs) at s e =
@@ -61,6 +76,11 @@ spells-read s o (Four n) at e =
     let c : fourAt s at / 256 % 256 ≡ byteAt s (at + 1 + 1) = omega arith in
     let d : fourAt s at % 256 ≡ byteAt s (at + 1 + 1 + 1) = omega arith in
     simp (a, b, c, d)
+spells-read s o (Signed z) at e =
+    let c = complement-signed (wordAt s at) (omega (arith, o at, o (at + 1))) in
+    let a : wordAt s at / 256 % 256 ≡ byteAt s at = omega (arith, o at, o (at + 1)) in
+    let b : wordAt s at % 256 ≡ byteAt s (at + 1) = omega (arith, o (at + 1)) in
+    simp (c, a, b)
 spells-read s o (Flag b) at e = ap (λ (n : ℕ). n ∷ []) (flag-byte (byteAt s at) (ltb-false 1 (byteAt s at) e))
 spells-read s o (Halves a b) at e =
     let h : halves (byteAt s at / 16) (byteAt s at % 16) ≡ byteAt s at = omega (arith, o at) in
@@ -129,6 +149,14 @@ module _ (p : List ℕ) where
       let c = behind l 2 (length p + 1 + 1) (omega arith) in
       let d = behind l 3 (length p + 1 + 1 + 1) (omega arith) in
       simp (a, b, c, d, four-back n h)
+  reads-spelled (Signed z) q h =
+      let n = complement z in
+      let f = complement-fits z h in
+      let l = n / 256 % 256 ∷ n % 256 ∷ q in
+      let a = behind l 0 (length p) (omega arith) in
+      let b = behind l 1 (length p + 1) refl in
+      let e : n / 256 % 256 * 256 + n % 256 ≡ n = omega arith in
+      simp (a, b, e, signed-complement z h)
   reads-spelled (Flag b) q h = ap (λ (n : ℕ). Flag (isSet n)) (behind (flag b ∷ q) 0 (length p) (omega arith)) ∙ ap Flag (flag-back b)
   reads-spelled (Halves a b) q h =
       let s = behind (halves a b ∷ q) 0 (length p) (omega arith) in

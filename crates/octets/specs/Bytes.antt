@@ -1,4 +1,4 @@
--- Bytes, words high byte first, in and out, their bits, and the XOR of bytes.
+-- Bytes, words high byte first, in and out, their bits, counters, and the XOR of bytes.
 use Prim.Native.Nat.{ℕ, _+_, _*_, _-_, _/_, _%_, _^_}
 use mathlib.Core.Bool.{Bool}
 use mathlib.Core.List.{List, [], _∷_}
@@ -51,6 +51,10 @@ wordBit b n = eqb (n / 2 ^ (15 - b) % 2) 1
 -- "bits 0-3" and "bits 4-7": bit 0 is the most significant
 abbrev pub halves : ℕ → ℕ → ℕ
 halves a b = a % 16 * 16 + b % 16
+
+-- "Counters are 16 bits and wrap."
+abbrev pub counted : ℕ → ℕ
+counted n = (n + 1) % 2 ^ 16
 
 -- the XOR of a number and every byte
 unfoldable pub xorOn : ℕ → List ℕ → ℕ

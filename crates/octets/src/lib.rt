@@ -3,7 +3,7 @@ ghost use Prim.Native.Nat.{_+_, _*_};
 ghost use mathlib.Core.Path.{_≡_};
 ghost use mathlib.Core.Bool.{cond, _&&_, _||_};
 ghost use lib.ListN.{take, drop};
-ghost use Rattle.octets.specs.Bytes.{byteAt, wordAt, tripleAt, xorOn};
+ghost use Rattle.octets.specs.Bytes.{byteAt, wordAt, tripleAt, counted, xorOn};
 
 // The byte at a place, or 0 past the end.
 pub fn byte(s: &[u8], at: usize) -> u8
@@ -52,6 +52,13 @@ pub fn part(s: &[u8], at: usize, len: usize) -> &[u8]
         return &s[at..];
     }
     &s[at..at + len]
+}
+
+// A count one on: 16 bits, wrapping.
+pub fn counted(n: u16) -> u16
+    ensures { λ r. ⌜ r ≡ counted n ⌝ }
+{
+    if n == 65535 { 0 } else { n + 1 }
 }
 
 // The XOR of a number and every byte of a slice.

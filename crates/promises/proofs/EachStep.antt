@@ -14,7 +14,8 @@ use Rattle.sequence.specs.declared.Command.{Command}
 use Rattle.sequence.specs.declared.Command.the-variants.{RunRaster, Expose, LoopBack, CallSequence, Terminate, Delay}
 use Rattle.sequence.specs.declared.RasterWords.{RasterWords}
 use Rattle.sequence.specs.Text.{headerRows, headerOf}
-use Rattle.sequence.specs.Raster.{rasterAt}
+use Rattle.sequence.specs.Raster.{rasterAt, startOf}
+use Rattle.sequence.proofs.Paths.{start-whole}
 use Rattle.sequence.specs.Env.{Env}
 use Rattle.sequence.proofs.Laws.{Bytes, command-bytes}
 use Rattle.runner.specs.declared.Runner.{Runner}
@@ -22,7 +23,7 @@ use Rattle.runner.specs.declared.Opened.{Opened}
 use Rattle.runner.specs.declared.Opened.the-variants.{Open}
 use Rattle.runner.specs.declared.Act.{Act}
 use Rattle.runner.specs.declared.Act.the-variants.{Opens, Exposes, Loops, Waits, Calls, Ends}
-use Rattle.runner.specs.Judge.{setOf, exposeRows, closeRows, judged, judge}
+use Rattle.runner.specs.Judge.{repeatBegun, setOf, runRows, exposeRows, closeRows, judged, judge}
 use Rattle.runner.specs.declared.Stepped.{Stepped}
 use Rattle.runner.specs.declared.Event.{Event}
 use Rattle.runner.specs.declared.Event.the-variants.{Enter, Raster, Exp, Loop, Next, Done, Wait, Call, End}
@@ -33,6 +34,7 @@ use Rattle.promises.specs.Library.{ours}
 use Rattle.promises.specs.Demand2.{advanceRows, callRows}
 use Rattle.status.specs.State.{watched}
 use Rattle.promises.specs.EachStep.{here, Obeys, Takes, EnterStep, RasterStep, ExposeAdvances, ExposeStays, LoopJumps, LoopRepeats, LoopCloses, DelayStep, CallRepeats, TerminateRepeats, CallMade, TerminateEnds}
+use Rattle.promises.proofs.Text.Sound.{stay}
 
 -- a step with this event shows what the event does
 takes : {r : Stepped} {left : Runner} {seen : ℕ → Shown} (e : Event) → r ≡ to e left → ((count : ℕ) → shownAs count e ≡ seen count) → Takes r seen left
@@ -98,11 +100,15 @@ module _ (E : Env) (seqs : List ℕ) (s : Runner) where
 
 -- ── the commands
 pub raster-step : RasterStep ours
-unfolding act begun
+unfolding act begun runRows
 raster-step E seqs s o =
     let raster = rasterAt (here E seqs s) (s .place) in
     let p = at-raster E seqs s o in
-    (takes (Raster (raster .id) (raster .initial) (raster .list)) p (λ count. refl), λ w. ap (λ (x : Stepped). watched (x .event) w .list) p)
+    let k = repeatBegun (openOf (E .format) s) in (
+      takes (Raster (raster .id) (startOf raster k) (raster .list)) p (λ count. refl),
+      start-whole raster k (stay E raster k (o .accepted .1) .1),
+      λ w. ap (λ (x : Stepped). watched (x .event) w .list) p,
+    )
 
 advances-told : (raster : RasterWords) (s : Runner) → advances raster s ≡ true → (1 < s .raster .passes) × (s .raster .count + 1 ≡ setOf raster)
 unfolding advances

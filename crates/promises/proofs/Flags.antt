@@ -42,11 +42,11 @@ each-answered marks science h =
 
 pub flags-as-tabled : FlagsAsTabled
 unfolding runRows rasterRows
-flags-as-tabled cards text p o marks alone counts path asrc low good h =
+flags-as-tabled cards text p o marks alone counts path low good h =
     let raster = rasterAt text p in
-    let paths = pathRows raster (repeatBegun raster o) in
+    let paths = pathRows raster (repeatBegun o) in
     let ends = paths ++ flagRows cards raster in
     none-skipped (row 3 (openElsewhere p o) ∷ countRows raster) (listRows cards raster ++ ends) (alone, counts)
     ∙ none-skipped (listRows cards raster) ends (le-ltb 47 (raster .list) low, (rw good refl, tt))
     ∙ none-skipped paths (flagRows cards raster) path
-    ∙ rw (asrc, good) (eqb-true _ _ (each-answered marks (raster .science) h))
+    ∙ rw good (eqb-true _ _ (each-answered marks (raster .science) h))

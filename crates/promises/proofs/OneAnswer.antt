@@ -6,6 +6,7 @@ use Rattle.promises.specs.OneAnswer.{
   OneOctetsWord,
   OneOctetsTriple,
   OneOctetsPart,
+  OneOctetsCounted,
   OneOctetsXorOn,
   OneOctetsRefuse,
   OneOctetsPair,
@@ -32,6 +33,8 @@ use Rattle.promises.specs.OneAnswer.{
   OneSequenceIdAt,
   OneSequenceInitialAt,
   OneSequenceLoopsAt,
+  OneSequenceAsrcAt,
+  OneSequenceSkipAt,
   OneSequenceRepeatsAt,
   OneSequenceListAt,
   OneSequenceRasterStands,
@@ -61,7 +64,6 @@ use Rattle.promises.specs.OneAnswer.{
   OneTelecommandUplinkRange,
   OneTelecommandDumped,
   OneTelecommandUplink,
-  OneStatusCounted,
   OneStatusLedgerArrived,
   OneStatusLedgerFailed,
   OneStatusLedgerCleared,
@@ -93,6 +95,7 @@ use Rattle.promises.specs.OneAnswer.{
   OneLineIsWord,
   OneLineKindNamed,
   OneLineReadLine,
+  OneStateRunnerOf,
   OneStateUnitOf,
   OneStateSaveAnswer,
   OneStateSaveStep,
@@ -115,6 +118,9 @@ one-result-octets-triple κs a r r′ e e′ p q = p ∙ sym q
 
 pub one-result-octets-part : OneOctetsPart
 one-result-octets-part κs a r r′ e e′ p q = p ∙ sym q
+
+pub one-result-octets-counted : OneOctetsCounted
+one-result-octets-counted κs a r r′ e e′ p q = p ∙ sym q
 
 pub one-result-octets-xor-on : OneOctetsXorOn
 one-result-octets-xor-on κs a r r′ e e′ p q = p ∙ sym q
@@ -195,6 +201,12 @@ one-result-sequence-initial-at κs a r r′ e e′ p q = p ∙ sym q
 
 pub one-result-sequence-loops-at : OneSequenceLoopsAt
 one-result-sequence-loops-at κs a r r′ e e′ p q = p ∙ sym q
+
+pub one-result-sequence-asrc-at : OneSequenceAsrcAt
+one-result-sequence-asrc-at κs a r r′ e e′ p q = p ∙ sym q
+
+pub one-result-sequence-skip-at : OneSequenceSkipAt
+one-result-sequence-skip-at κs a r r′ e e′ p q = p ∙ sym q
 
 pub one-result-sequence-repeats-at : OneSequenceRepeatsAt
 one-result-sequence-repeats-at κs a r r′ e e′ p q = p ∙ sym q
@@ -293,9 +305,6 @@ pub one-result-telecommand-uplink : OneTelecommandUplink
 one-result-telecommand-uplink κs a r r′ e e′ p q = λ i. ((p .0 ∙ sym (q .0)) i, (p .1 ∙ sym (q .1)) i)
 
 -- ── status
-pub one-result-status-counted : OneStatusCounted
-one-result-status-counted κs a r r′ e e′ p q = p ∙ sym q
-
 pub one-result-status-Ledger-arrived : OneStatusLedgerArrived
 one-result-status-Ledger-arrived κs a r r′ e e′ p q = p ∙ sym q
 
@@ -386,6 +395,9 @@ pub one-result-line-read-line : OneLineReadLine
 one-result-line-read-line κs a r r′ e e′ p q = λ i. ((p .0 ∙ sym (q .0)) i, (p .1 ∙ sym (q .1)) i)
 
 -- ── state
+pub one-result-state-runner-of : OneStateRunnerOf
+one-result-state-runner-of κs a r r′ e e′ p q = p ∙ sym q
+
 pub one-result-state-unit-of : OneStateUnitOf
 one-result-state-unit-of κs a r r′ e e′ p q = p ∙ sym q
 

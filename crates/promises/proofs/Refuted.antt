@@ -7,13 +7,14 @@ use mathlib.Core.Bool.{Bool, true, false, true≢false, false≢true}
 use mathlib.Core.List.{List, [], _∷_}
 use mathlib.Core.Logic.{inl, inr}
 use lib.Dec.{eqb}
+use lib.IntN.{pos}
 use lib.ListN.{length, getD}
 use Rattle.octets.specs.Bytes.{byteAt, tripleAt, xorOn}
 use Rattle.memory.specs.declared.Format.{Format}
 use Rattle.memory.specs.Memory.{flight, fills, tablesWrong, rangeOf, rangeAt}
 use Rattle.sequence.specs.Text.{fault, limit, lengthGood, xorGood, headerRows, headerOf, sizeOf, decoded, noneThere, commandAt, sizeAt}
 use Rattle.sequence.specs.Starts.{starts, startsOf, among, exposesBetween, firstExposure, targetGood}
-use Rattle.sequence.specs.Raster.{rasterAt, flagsGood, markMissing, somePast}
+use Rattle.sequence.specs.Raster.{rasterAt, flagsGood, markMissing, someStrays}
 use Rattle.sequence.specs.LineList.{checksumOf, marked, marksOf, listCard}
 use Rattle.sequence.specs.Env.{envOf}
 use Rattle.sequence.proofs.SampleTables.{seqs, lists, ends, calls, lineList, fields, raster}
@@ -112,7 +113,7 @@ writing-nothing-fails L x f g =
 -- ── demand 2, each step: a runner in sequence 0
 abbrev runner : ℕ → Bool → Runner
 runner place entering =
-    record { sequence = 0; place = place; running = true; entering = entering; raster = record { place = 255; count = 0; passes = 0; repeats = 0 }; rounds = 1; mirror = 0 }
+    record { sequence = 0; place = place; running = true; entering = entering; raster = record { place = 255; count = 0; passes = 0; repeats = 0; run = 0; shift = pos 0 }; rounds = 1; mirror = 0 }
 
 pub idling-fails : IdlingFails
 unfolding headerRows lengthGood xorGood limit xorOn
@@ -261,7 +262,7 @@ refuted =
 
 -- ── misreadings: the exposure that is misplaced, and where the plan has it
 pub misread-refuted : MisreadRefuted
-unfolding xorOn fills tablesWrong rangeOf rangeAt limit lengthGood xorGood headerRows headerOf sizeOf decoded noneThere commandAt sizeAt starts startsOf among exposesBetween firstExposure targetGood rasterAt flagsGood markMissing somePast checksumOf marked marksOf listCard pathRows rasterRows runRows exposeRows loopRows closeRows judged judge aborted entered begun advances exposed looped ended act stepIn stepOf walked walk checkOne onward follow chainOf checkRows checkOf powerOn runsWrong rangeTests outOfRange moded selected telecommandOf ownRows lentWrong packetRows codeOf effect obeyedUnit refusedUnit unitAfter answerOf seqsAfter listsAfter stepRows withStep unitStep
+unfolding xorOn fills tablesWrong rangeOf rangeAt limit lengthGood xorGood headerRows headerOf sizeOf decoded noneThere commandAt sizeAt starts startsOf among exposesBetween firstExposure targetGood rasterAt flagsGood markMissing someStrays checksumOf marked marksOf listCard pathRows rasterRows runRows exposeRows loopRows closeRows judged judge aborted entered begun advances exposed looped ended act stepIn stepOf walked walk checkOne onward follow chainOf checkRows checkOf powerOn runsWrong rangeTests outOfRange moded selected telecommandOf ownRows lentWrong packetRows codeOf effect obeyedUnit refusedUnit unitAfter answerOf seqsAfter listsAfter stepRows withStep unitStep
 misread-refuted =
     record {
       mirror-each-exposure =

@@ -4,6 +4,7 @@ use Prim.Native.Nat.{ℕ}
 use mathlib.Core.Path.{_≡_, refl}
 use mathlib.Core.Bool.{true}
 use mathlib.Core.List.{List, [], _∷_, _++_}
+use lib.IntN.{pos}
 use lib.ListN.{set, replicate}
 use Rattle.octets.specs.Bytes.{xorOn}
 use Rattle.octets.proofs.Samples.{Sample, sample, allRight}
@@ -12,7 +13,7 @@ use Rattle.sequence.specs.declared.RasterWords.{RasterWords}
 use Rattle.sequence.specs.declared.ReasonNumbers.{ReasonNumbers}
 use Rattle.sequence.specs.Text.{limit, lengthGood, xorGood, headerRows, headerOf, sizeOf, decoded, noneThere, commandAt, sizeAt}
 use Rattle.sequence.specs.Starts.{starts, startsOf, among, exposesBetween, firstExposure, targetGood}
-use Rattle.sequence.specs.Raster.{rasterAt, flagsGood, markMissing, somePast}
+use Rattle.sequence.specs.Raster.{rasterAt, flagsGood, markMissing, someStrays}
 use Rattle.sequence.specs.LineList.{checksumOf, marked, marksOf, listCard, cardShown}
 use Rattle.sequence.specs.Env.{cardsOf, envOf}
 use Rattle.sequence.proofs.SampleTables.{seqs, lists, ends, calls, lineList, fields, raster, rasterAtPosition, theRaster}
@@ -45,7 +46,7 @@ planned sequence = exposedPositions (chainPlan flight (seqs sequence) (0 ∷ [])
 
 abbrev started : Runner
 started =
-    record { sequence = 0; place = 0; running = true; entering = true; raster = record { place = 255; count = 0; passes = 0; repeats = 0 }; rounds = 0; mirror = 0 }
+    record { sequence = 0; place = 0; running = true; entering = true; raster = record { place = 255; count = 0; passes = 0; repeats = 0; run = 0; shift = pos 0 }; rounds = 0; mirror = 0 }
 
 abbrev seenIn : ℕ → List ℕ → List ℕ → List ℕ
 seenIn steps sequence list = positionsSeen (sightsOf (envOf flight (lists list)) (seqs sequence) steps started)
@@ -94,6 +95,14 @@ flagged science sum = raster 0x22 (fields 0x00 0x64 3 1 2 0 science) 1 sum
 abbrev markedList : ℕ → ℕ → List ℕ
 markedList low sum = set (set (lineList 1) 15 low) 3 sum
 
+-- document 01's raster sequence with one loop, so many rounds and repeats, this initial position, ASRC byte and skip, and its checksum
+abbrev moving : ℕ → ℕ → ℕ → ℕ → ℕ → ℕ → ℕ → List ℕ
+moving rounds high low repeats asrc skip sum = set (set (set (raster 0x22 (fields high low 1 1 repeats 0 0) 1 sum) 3 rounds) 18 asrc) 21 skip
+
+-- five repeats from 100 on by 5 after every second
+abbrev fiveMoved : List ℕ
+fiveMoved = moving 1 0x00 0x64 5 0x05 2 0xC2
+
 -- every field of a raster, word by word
 abbrev wordNumbers : RasterWords → List ℕ
 wordNumbers w =
@@ -123,6 +132,19 @@ samples =
     -- "Initial 2380, 3 loops, step 10 fits; 2381 gives 14."
     ∷ sample (checked (rasterAtPosition 0x09 0x4C 0xE1) (lineList 1)) (1 ∷ 0 ∷ 0 ∷ 0 ∷ 16 ∷ 6 ∷ 0 ∷ [])
     ∷ sample (checked (rasterAtPosition 0x09 0x4D 0xE0) (lineList 1)) (3 ∷ 14 ∷ 0 ∷ 4 ∷ 0 ∷ 0 ∷ 0 ∷ [])
+    -- ASRC 05, skip 2: five repeats, and the same in each round
+    ∷ sample (checked fiveMoved (lineList 1)) (1 ∷ 0 ∷ 0 ∷ 0 ∷ 17 ∷ 5 ∷ 0 ∷ [])
+    ∷ sample (planned fiveMoved) (100 ∷ 100 ∷ 105 ∷ 105 ∷ 110 ∷ [])
+    ∷ sample (seenIn 17 fiveMoved (lineList 1)) (100 ∷ 100 ∷ 105 ∷ 105 ∷ 110 ∷ [])
+    ∷ sample (seenIn 33 (moving 2 0x00 0x64 5 0x05 2 0xC1) (lineList 1)) (100 ∷ 100 ∷ 105 ∷ 105 ∷ 110 ∷ 100 ∷ 100 ∷ 105 ∷ 105 ∷ 110 ∷ [])
+    -- ASRC 85, skip 3, from 4 on: three repeats pass, the fourth would begin below 0: 14
+    ∷ sample (checked (moving 1 0x00 0x04 3 0x85 3 0x25) (lineList 1)) (1 ∷ 0 ∷ 0 ∷ 0 ∷ 11 ∷ 3 ∷ 0 ∷ [])
+    ∷ sample (checked (moving 1 0x00 0x04 4 0x85 3 0x22) (lineList 1)) (3 ∷ 14 ∷ 0 ∷ 4 ∷ 0 ∷ 0 ∷ 0 ∷ [])
+    -- ASRC 80: 3, also with initial 2401; so is ASRC 05 with skip 0; ASRC 0 with skip 0 passes
+    ∷ sample (checked (moving 1 0x00 0x64 2 0x80 1 0x43) (lineList 1)) (3 ∷ 3 ∷ 0 ∷ 4 ∷ 0 ∷ 0 ∷ 0 ∷ [])
+    ∷ sample (checked (moving 1 0x09 0x61 2 0x80 1 0x4F) (lineList 1)) (3 ∷ 3 ∷ 0 ∷ 4 ∷ 0 ∷ 0 ∷ 0 ∷ [])
+    ∷ sample (checked (moving 1 0x00 0x64 2 0x05 0 0xC7) (lineList 1)) (3 ∷ 3 ∷ 0 ∷ 4 ∷ 0 ∷ 0 ∷ 0 ∷ [])
+    ∷ sample (checked (moving 1 0x00 0x64 2 0x00 0 0xC2) (lineList 1)) (1 ∷ 0 ∷ 0 ∷ 0 ∷ 8 ∷ 2 ∷ 0 ∷ [])
     -- science bit 2 alone; bits 2 and 4: 3
     ∷ sample (checked (flagged 0x20 0xE0) (lineList 1)) (1 ∷ 0 ∷ 0 ∷ 0 ∷ 16 ∷ 6 ∷ 0 ∷ [])
     ∷ sample (checked (flagged 0x28 0xE8) (lineList 1)) (3 ∷ 3 ∷ 0 ∷ 4 ∷ 0 ∷ 0 ∷ 0 ∷ [])
@@ -168,5 +190,5 @@ samples =
     ∷ []
 
 pub samples-right : allRight samples ≡ true
-unfolding xorOn fills tablesWrong rangeOf rangeAt limit lengthGood xorGood headerRows headerOf sizeOf decoded noneThere commandAt sizeAt starts startsOf among exposesBetween firstExposure targetGood rasterAt flagsGood markMissing somePast checksumOf marked marksOf listCard pathRows rasterRows runRows exposeRows loopRows closeRows judged judge aborted entered begun advances exposed looped delayed called ended act stepIn stepOf walked walk checkOne onward follow chainOf checkRows checkOf powerOn runsWrong rangeTests outOfRange moded selected telecommandOf ownRows lentWrong packetRows codeOf statusOf effect obeyedUnit reply refusedUnit unitAfter replyOf answerOf sightsOf
+unfolding xorOn fills tablesWrong rangeOf rangeAt limit lengthGood xorGood headerRows headerOf sizeOf decoded noneThere commandAt sizeAt starts startsOf among exposesBetween firstExposure targetGood rasterAt flagsGood markMissing someStrays checksumOf marked marksOf listCard pathRows rasterRows runRows exposeRows loopRows closeRows judged judge aborted entered begun advances exposed looped delayed called ended act stepIn stepOf walked walk checkOne onward follow chainOf checkRows checkOf powerOn runsWrong rangeTests outOfRange moded selected telecommandOf ownRows lentWrong packetRows codeOf statusOf effect obeyedUnit reply refusedUnit unitAfter replyOf answerOf sightsOf
 samples-right = refl

@@ -5,12 +5,12 @@ use mathlib.Core.Path.{_≡_}
 use mathlib.Core.Bool.{true}
 use mathlib.Core.List.{List, [], _∷_}
 use mathlib.Core.Logic.{_⊎_}
-use Rattle.octets.specs.Bytes.{byteAt}
+use Rattle.octets.specs.Bytes.{byteAt, counted}
 use Rattle.memory.specs.declared.Format.{Format}
 use Rattle.sequence.specs.Starts.{among}
 use Rattle.unit.specs.declared.Unit.{Unit as ControlUnit}
 use Rattle.unit.specs.declared.Outcome.the-variants.{Denied}
-use Rattle.status.specs.State.{counted, logOf}
+use Rattle.status.specs.State.{logOf}
 use Rattle.promises.specs.Library.{Library}
 use Rattle.promises.specs.Runs.{idle, Showing}
 use Rattle.promises.specs.Sent.{Sent, code, unitLeft, TablesKept, NoAnswer}

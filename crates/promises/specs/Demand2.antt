@@ -6,8 +6,9 @@ use mathlib.Core.Bool.{true, false, cond, not, _&&_}
 use mathlib.Core.List.{List, [], _∷_, _++_}
 use mathlib.Core.Logic.{_↔_, _⊎_}
 use lib.Dec.{ltb}
+use lib.IntN.{pos}
 use lib.ListN.{length, take, drop, replicate}
-use Rattle.octets.specs.Bytes.{byteAt, tripleAt, two, four, halves}
+use Rattle.octets.specs.Bytes.{byteAt, tripleAt, two, four, halves, counted}
 use Rattle.octets.specs.Rows.{Row, row, NoneHolds, FirstBears}
 use Rattle.memory.specs.declared.Format.{Format}
 use Rattle.memory.specs.Memory.{formatOf, windowRows}
@@ -30,7 +31,7 @@ use Rattle.unit.specs.declared.Unit.{Unit as ControlUnit}
 use Rattle.telecommand.specs.declared.Telecommand.{Telecommand}
 use Rattle.telecommand.specs.declared.Telecommand.the-variants.{Status, Dump, Allow, Mode, Clear, Select, Uplink, Foreign, Unheard}
 use Rattle.unit.specs.declared.Outcome.the-variants.{Denied, Saw}
-use Rattle.status.specs.State.{counted, logOf, watched}
+use Rattle.status.specs.State.{logOf, watched}
 use Rattle.unit.specs.State.{outOfRange}
 use Rattle.telecommand.specs.Packet.{telecommandOf}
 use Rattle.unit.specs.Packet.{packetRows}
@@ -266,6 +267,8 @@ pub record Started (was is : ControlUnit) : Type 0 where
   pub count : is .runner .raster .count ≡ was .runner .raster .count
   pub passes : is .runner .raster .passes ≡ was .runner .raster .passes
   pub repeats : is .runner .raster .repeats ≡ was .runner .raster .repeats
+  pub run : is .runner .raster .run ≡ was .runner .raster .run
+  pub shift : is .runner .raster .shift ≡ was .runner .raster .shift
   pub rounds : is .runner .rounds ≡ was .runner .rounds
 
 -- "3-2 while it runs stops it with abort code 1, the place kept."
@@ -348,7 +351,7 @@ PowersOn L =
       control = record { mode = 1; allowed = false; requests = 0; selection = 255 };
       watch = record { list = 0; exposures = 0; abort = 0 };
       runner =
-          record { sequence = 255; place = 0; running = false; entering = false; raster = record { place = 255; count = 0; passes = 0; repeats = 0 }; rounds = 0; mirror = 0 };
+          record { sequence = 255; place = 0; running = false; entering = false; raster = record { place = 255; count = 0; passes = 0; repeats = 0; run = 0; shift = pos 0 }; rounds = 0; mirror = 0 };
     }
 
 -- ── 4. Steps

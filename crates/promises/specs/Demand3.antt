@@ -1,10 +1,11 @@
 -- Demand 3: what the table check promises of the unit. Each definition says a part of it, in plain words and then in symbols.
 -- It is a statement of any library L: of its check, its step and what its packets leave (Library).
-use Prim.Native.Nat.{ℕ, zero, suc, _+_, _*_, _≤_}
+use Prim.Native.Nat.{ℕ, zero, suc, _+_, _*_, _/_, _≤_, _<_}
 use mathlib.Core.Path.{_≡_}
 use mathlib.Core.Bool.{true, false, cond, _||_}
 use mathlib.Core.List.{List, [], _∷_, _++_}
 use mathlib.Core.Logic.{_⊎_}
+use lib.IntN.{ℤ, pos, _+ℤ_}
 use lib.ListN.{length}
 use Rattle.octets.specs.Bytes.{byteAt}
 use Rattle.memory.specs.declared.Format.{Format}
@@ -17,7 +18,7 @@ use Rattle.sequence.specs.declared.ListCard.the-variants.{Good, Bad}
 use Rattle.sequence.specs.declared.RasterWords.{RasterWords}
 use Rattle.sequence.specs.Text.{commandAt}
 use Rattle.sequence.specs.Starts.{startsOf, rastersAmong, among}
-use Rattle.sequence.specs.Raster.{rasterAt, startOf, markMissing}
+use Rattle.sequence.specs.Raster.{rasterAt, shiftOf, startOf, markMissing}
 use Rattle.sequence.specs.LineList.{listCard}
 use Rattle.runner.specs.declared.Event.{Event}
 use Rattle.runner.specs.declared.Event.the-variants.{Enter, Raster, Exp}
@@ -161,8 +162,8 @@ pub record Lists (F : Format) (seqs lists : List ℕ) (n : ℕ) (t : Told) : Typ
 
 -- `turns 0 n (λ k left. ..)` is what stands there for k = 0, 1, .. up to n - 1, one after another.
 
--- One repeat of a raster: the raster is begun, and then there are loops × exposures exposures. "Exposure k of one raster repeat, from 0,
--- is at initial + step x (k / exposures, whole part)."
+-- One repeat of a raster: the raster is begun at its initial position, moved by the shift of this turn, and then there are loops × exposures
+-- exposures. "Exposure k of one raster repeat, from 0, is at initial + step x (k / exposures, whole part)", and "the initial position moves".
 abbrev pub repeatPlan : RasterWords → ℕ → List Event
 repeatPlan raster turn =
     Raster (raster .id) (startOf raster turn) (raster .list)
@@ -188,6 +189,26 @@ sequencePlan n text = Enter n ∷ turns 0 (byteAt text 3) (λ r left. roundPlan 
 abbrev pub chainPlan : Format → List ℕ → List ℕ → List Event
 chainPlan F seqs [] = []
 chainPlan F seqs (n ∷ ns) = sequencePlan n (entryOf F seqs n) ++ chainPlan F seqs ns
+
+-- Where exposure k of a turn is to be, by the formula: initial + the turn's shift + step x (k / exposures, whole part). The shift has a sign, forward
+-- or back: "steps times the whole part of [turn] / skip".
+abbrev pub byFormula : RasterWords → ℕ → ℕ → ℤ
+byFormula raster turn k = pos (raster .initial) +ℤ shiftOf raster turn +ℤ pos (raster .step * (k / raster .exposures))
+
+-- The positions in a raster's plan are those of the formula: it gives none below 0, from which a part would be cut, and none above 2400.
+abbrev pub Positioned : RasterWords → Type 0
+Positioned raster = (turn k : ℕ) → turn < raster .repeats → k < raster .loops * raster .exposures
+    → (pos (positionAt raster turn k) ≡ byFormula raster turn k) × (positionAt raster turn k ≤ 2400)
+
+-- So of every raster of a text, and of every listed sequence: "every position of every run must lie in 0 to 2400".
+abbrev pub EachPositioned : List ℕ → List ℕ → Type 0
+EachPositioned text [] = Unit {0}
+EachPositioned text (p ∷ ps) = Positioned (rasterAt text p) × EachPositioned text ps
+
+abbrev pub ChainPositioned : Format → List ℕ → List ℕ → Type 0
+ChainPositioned F seqs [] = Unit {0}
+ChainPositioned F seqs (n ∷ ns) =
+    let text = entryOf F seqs n in EachPositioned text (rastersAmong text (startsOf text)) × ChainPositioned F seqs ns
 
 -- ── 5. What is seen
 
@@ -264,12 +285,13 @@ AbortsAt code n place (o ∷ os) = Showing o (aborts code n place) × All IsIdle
 pub record RunsAsTold (F : Format) (seqs : List ℕ) (t : Told) (os : List Outcome) : Type 0 where
   -- "it never aborts", and no step is denied
   pub never : All GoesWell os
-  -- no exposure is "past the end stop"
+  -- no exposure is "past the end stop"; none is below 0, since each has the number that the signed formula gives
   pub inReach : NonePast 2400 (exposedPositions (eventsOf os))
+  pub positioned : ChainPositioned F seqs (t .names)
   -- "the steps to the last command it lists equal the numbers it reports": so many steps work, and then it goes on as the chain ends
   pub steps : FirstThen (t .steps) Works (GoesOn F seqs (t .ending) (t .names)) os
   -- with these steps the listed sequences are entered in order, and "in each round of its sequence a raster takes exactly loops times
-  -- exposures times repeats, each exposure at the position the formula gives"
+  -- exposures times repeats, each exposure at the position the formula gives"; "each round of the sequence starts again at k = 0"
   pub planned : length os ≡ t .steps → fromEach landmark (eventsOf os) ≡ chainPlan F seqs (t .names)
   -- "the exposures .. equal the numbers it reports"
   pub exposures : length os ≡ t .steps → length (exposedPositions (eventsOf os)) ≡ t .exposures

@@ -65,7 +65,7 @@ rulesAt E text p o = rulesFor E text p o (commandAt text p)
 
 -- The raster that is open after the command at p: a run raster opens one, an expose is one exposure more in it, a loop back closes it.
 abbrev pub openAfter : List ℕ → ℕ → Opened → Command → Opened
-openAfter text p o RunRaster = Open (placeAt p) 0 (rasterAt text p .repeats)
+openAfter text p o RunRaster = Open (placeAt p) 0 0
 openAfter text p o (Expose time) = oneMore o
 openAfter text p o (LoopBack target) = Shut
 openAfter text p o (CallSequence n) = o

@@ -4,21 +4,22 @@ use Prim.Native.Nat.{ℕ, _+_, _-_, _≤_, _<_}
 use mathlib.Core.Path.{_≡_}
 use mathlib.Core.Bool.{true, false, cond}
 use mathlib.Core.List.{List, [], _∷_}
-use Rattle.octets.specs.Bytes.{byteAt}
+use lib.IntN.{pos, _+ℤ_}
+use Rattle.octets.specs.Bytes.{byteAt, counted}
 use Rattle.octets.specs.Rows.{NoneHolds}
 use Rattle.memory.specs.declared.Place.{Place}
 use Rattle.sequence.specs.declared.Command.{Command}
 use Rattle.sequence.specs.declared.Command.the-variants.{RunRaster, Expose, LoopBack, CallSequence, Terminate, Delay}
 use Rattle.sequence.specs.Text.{headerRows, commandAt, sizeAt}
-use Rattle.sequence.specs.Raster.{rasterAt}
+use Rattle.sequence.specs.Raster.{rasterAt, shiftOf, startOf}
 use Rattle.sequence.specs.Env.{Env, textOf}
 use Rattle.runner.specs.declared.Runner.{Runner}
 use Rattle.runner.specs.declared.Stepped.{Stepped}
 use Rattle.runner.specs.declared.Opened.the-variants.{Open}
-use Rattle.runner.specs.Judge.{isOpen, setOf}
+use Rattle.runner.specs.Judge.{isOpen, repeatBegun, setOf}
 use Rattle.runner.specs.Events.{Shown, shows, shownAs}
 use Rattle.runner.specs.Step.{openOf}
-use Rattle.runner.specs.With.{withSequence, withPlace, withRunning, withEntering, withRaster, withRounds, withMirror, openAt, withCount, withPasses, withRepeats}
+use Rattle.runner.specs.With.{withSequence, withPlace, withRunning, withEntering, withRaster, withRounds, withMirror, openAt, withCount, withPasses, withRepeats, withRun}
 use Rattle.status.specs.declared.Watch.{Watch}
 use Rattle.status.specs.State.{watched}
 use Rattle.promises.specs.Library.{Library}
@@ -49,15 +50,28 @@ abbrev pub EnterStep : Library → Type 0
 EnterStep L = (E : Env) (seqs : List ℕ) (s : Runner) → s .running ≡ true → s .entering ≡ true → NoneHolds (headerRows (here E seqs s))
     → Takes (L .runs E seqs s) (λ count. shows "ENTER" 1 (s .sequence ∷ [])) (withEntering false (withPlace 4 (withRounds (byteAt (here E seqs s) 3) s)))
 
--- "Run raster: .. The mirror goes home, then to initial; the status takes the line list." A new set begins, with all passes; and all repeats,
--- unless the raster is open already: "a repeat's jump back .. doesn't reload repeats".
+-- "Run raster: .. The mirror goes home, then to initial; the status takes the line list." "In raster repeat k, from 0, the initial position moves
+-- by steps times the whole part of k / skip": the repeat that is begun is 0 where the raster is opened, else that of the run number; its shift is
+-- kept, and the mirror stands at the initial position and the shift together, a sum that nothing is cut from. A new set begins, with all passes;
+-- and all repeats, unless the raster is open already: "a repeat's jump back .. doesn't reload repeats".
 abbrev pub RasterStep : Library → Type 0
 RasterStep L = (E : Env) (seqs : List ℕ) (s : Runner) → Obeys E seqs s RunRaster
     → let raster = rasterAt (here E seqs s) (s .place) in
-    Takes (L .runs E seqs s) (λ count. shows "RASTER" 2 (raster .id ∷ raster .initial ∷ []))
+    let held = openOf (E .format) s in
+    let k = repeatBegun held in
+    Takes (L .runs E seqs s) (λ count. shows "RASTER" 2 (raster .id ∷ startOf raster k ∷ []))
     (withPlace (next E seqs s)
-    (withRaster (record { place = s .place; count = 0; passes = raster .loops; repeats = cond (isOpen (openOf (E .format) s)) (s .raster .repeats) (raster .repeats) })
-    (withMirror (raster .initial) s)))
+    (withRaster
+    (record {
+      place = s .place;
+      count = 0;
+      passes = raster .loops;
+      repeats = cond (isOpen held) (s .raster .repeats) (raster .repeats);
+      run = k;
+      shift = shiftOf raster k;
+    })
+    (withMirror (startOf raster k) s)))
+    × (pos (startOf raster k) ≡ pos (raster .initial) +ℤ shiftOf raster k)
     × ((w : Watch) → watched (L .runs E seqs s .event) w .list ≡ raster .list)
 
 -- "Expose": one exposure more in the set, where the mirror stands. "When this fills the set and passes remain, the mirror advances one step
@@ -79,10 +93,10 @@ abbrev pub LoopJumps : Library → Type 0
 LoopJumps L = (E : Env) (seqs : List ℕ) (s : Runner) (target : ℕ) → Obeys E seqs s (LoopBack target) → 1 < s .raster .passes
     → Takes (L .runs E seqs s) (λ count. shows "LOOP" 4 (target ∷ [])) (withPlace target (withRaster (withCount 0 (withPasses (s .raster .passes - 1) (s .raster))) s))
 
--- "Else repeats left: one fewer, jump to the run raster."
+-- "Else repeats left: one fewer, jump to the run raster." The run number is one on.
 abbrev pub LoopRepeats : Library → Type 0
 LoopRepeats L = (E : Env) (seqs : List ℕ) (s : Runner) (target : ℕ) → Obeys E seqs s (LoopBack target) → s .raster .passes ≤ 1 → 1 < s .raster .repeats
-    → Takes (L .runs E seqs s) (λ count. shows "NEXT" 5 []) (withPlace (s .raster .place) (withRaster (withRepeats (s .raster .repeats - 1) (s .raster)) s))
+    → Takes (L .runs E seqs s) (λ count. shows "NEXT" 5 []) (withPlace (s .raster .place) (withRaster (withRepeats (s .raster .repeats - 1) (withRun (counted (s .raster .run)) (s .raster))) s))
 
 -- "Else the raster closes."
 abbrev pub LoopCloses : Library → Type 0

@@ -51,9 +51,9 @@ abbrev pub inTable : Marks → ℕ → ℕ
 inTable marks science = getD (getD flagTable (science / 4 % 16) []) (bit (marks .aec) * 4 + bit (marks .event) * 2 + bit (marks .flare)) 0
 
 -- A run raster with any of the 256 science bytes, over a good line list with any marks, is answered as the table has it, where no other raster is
--- open and its counts, its path and its ASRC byte are not refused.
+-- open and its counts and its path are not refused.
 abbrev pub FlagsAsTabled : Type 0
 FlagsAsTabled = (cards : ℕ → ListCard) (text : List ℕ) (p : ℕ) (o : Opened) (marks : Marks) → let raster = rasterAt text p in openElsewhere p o ≡ false
-    → NoneHolds (countRows raster) → NoneHolds (pathRows raster (repeatBegun raster o)) → raster .asrc ≡ 0
+    → NoneHolds (countRows raster) → NoneHolds (pathRows raster (repeatBegun o))
     → raster .list ≤ 47 → cards (raster .list) ≡ Good marks → raster .science < 256
     → firstCode (runRows cards text p o) ≡ inTable marks (raster .science)

@@ -25,6 +25,7 @@ use Rattle.sequence.specs.declared.ListCard.{ListCard}
 use Rattle.sequence.specs.declared.ReasonNumbers.{ReasonNumbers}
 use Rattle.runner.proofs as runner
 use Rattle.runner.specs.declared.Act.{Act}
+use Rattle.runner.specs.declared.Runner.{Runner}
 use Rattle.runner.specs.declared.Stepped.{Stepped}
 use Rattle.survey.proofs as survey
 use Rattle.survey.specs.declared.Report.{Report}
@@ -65,6 +66,9 @@ OneOctetsTriple = One ℕ octets.triple.Kinds.ps octets.triple.Kinds.r octets.tr
 
 abbrev pub OneOctetsPart : Type 0
 OneOctetsPart = One (List ℕ) octets.part.Kinds.ps octets.part.Kinds.r octets.part.Reads.Learnt (λ κs r e. now r)
+
+abbrev pub OneOctetsCounted : Type 0
+OneOctetsCounted = One ℕ octets.counted.Kinds.ps octets.counted.Kinds.r octets.counted.Reads.Learnt (λ κs r e. r)
 
 abbrev pub OneOctetsXorOn : Type 0
 OneOctetsXorOn = One ℕ octets.xor_on.Kinds.ps octets.xor_on.Kinds.r octets.xor_on.Reads.Learnt (λ κs r e. r)
@@ -145,6 +149,12 @@ OneSequenceInitialAt = One ℕ sequence.initial_at.Kinds.ps sequence.initial_at.
 
 abbrev pub OneSequenceLoopsAt : Type 0
 OneSequenceLoopsAt = One ℕ sequence.loops_at.Kinds.ps sequence.loops_at.Kinds.r sequence.loops_at.Reads.Learnt (λ κs r e. r)
+
+abbrev pub OneSequenceAsrcAt : Type 0
+OneSequenceAsrcAt = One ℕ sequence.asrc_at.Kinds.ps sequence.asrc_at.Kinds.r sequence.asrc_at.Reads.Learnt (λ κs r e. r)
+
+abbrev pub OneSequenceSkipAt : Type 0
+OneSequenceSkipAt = One ℕ sequence.skip_at.Kinds.ps sequence.skip_at.Kinds.r sequence.skip_at.Reads.Learnt (λ κs r e. r)
 
 abbrev pub OneSequenceRepeatsAt : Type 0
 OneSequenceRepeatsAt = One ℕ sequence.repeats_at.Kinds.ps sequence.repeats_at.Kinds.r sequence.repeats_at.Reads.Learnt (λ κs r e. r)
@@ -243,9 +253,6 @@ abbrev pub OneTelecommandUplink : Type 0
 OneTelecommandUplink = One (List ℕ × List ℕ) telecommand.uplink.Kinds.ps telecommand.uplink.Kinds.r telecommand.uplink.Reads.Learnt (λ κs r (_, (seqs, (lists, _))). (now seqs, now lists))
 
 -- ── status
-abbrev pub OneStatusCounted : Type 0
-OneStatusCounted = One ℕ status.counted.Kinds.ps status.counted.Kinds.r status.counted.Reads.Learnt (λ κs r e. r)
-
 abbrev pub OneStatusLedgerArrived : Type 0
 OneStatusLedgerArrived = One Ledger status.Ledger.arrived.Kinds.ps status.Ledger.arrived.Kinds.r status.Ledger.arrived.Reads.Learnt (λ κs r e. r)
 
@@ -336,6 +343,9 @@ abbrev pub OneLineReadLine : Type 0
 OneLineReadLine = One (Line × List ℕ) line.read_line.Kinds.ps line.read_line.Kinds.r line.read_line.Reads.Learnt (λ κs r (_, (bytes, _)). (r, now bytes))
 
 -- ── state
+abbrev pub OneStateRunnerOf : Type 0
+OneStateRunnerOf = One Runner state.runner_of.Kinds.ps state.runner_of.Kinds.r state.runner_of.Reads.Learnt (λ κs r e. r)
+
 abbrev pub OneStateUnitOf : Type 0
 OneStateUnitOf = One ControlUnit state.unit_of.Kinds.ps state.unit_of.Kinds.r state.unit_of.Reads.Learnt (λ κs r e. r)
 

@@ -2,12 +2,12 @@
 use Prim.Native.Nat.{ℕ}
 use mathlib.Core.Path.{_≡_}
 use mathlib.Core.List.{List}
-use Rattle.octets.specs.Bytes.{byteAt}
+use Rattle.octets.specs.Bytes.{byteAt, counted}
 use Rattle.memory.specs.declared.Format.{Format}
 use Rattle.unit.specs.declared.Unit.{Unit as ControlUnit}
 use Rattle.status.specs.declared.Ledger.{Ledger}
 use Rattle.unit.specs.declared.Answer.{Answer}
-use Rattle.status.specs.State.{counted, logOf}
+use Rattle.status.specs.State.{logOf}
 use Rattle.promises.specs.Library.{Library}
 
 -- A packet is sent to a unit at a time, with two tables and an output lent, each of any size; the sequence table is read by a format.

@@ -134,8 +134,8 @@ module _ (cards : ℕ → ListCard) (text : List ℕ) (p : ℕ) where
   seven-judged o RunRaster e =
       let raster = rasterAt text p in
       let card = cards (raster .list) in
-      let path = pathRows raster (repeatBegun raster o) in
-      let flags = row 3 (not (eqb (raster .asrc) 0)) ∷ row 3 (not (flagsGood (raster .science))) ∷ [] in
+      let path = pathRows raster (repeatBegun o) in
+      let flags = row 3 (not (flagsGood (raster .science))) ∷ [] in
       let before = row 3 (openElsewhere p o) ∷ (countRows raster ++ (row 6 (ltb 47 (raster .list)) ∷ [])) in
       let (none, why) = bearer 7 before (path ++ flagRows cards raster) (ltb 0 (cardShown card .number)) tt (run-raster-exactly cards text p o .refused 7 (omega arith) .0 e) in
       let why′ = ⊎-elim inl (λ f. inr (⊎-elim (λ m. m) absurd (bearer 7 (path ++ flags) [] (markMissing (marksIn card) (raster .science)) tt f .1))) why in

@@ -1,19 +1,24 @@
 -- Laws of the judgement and the step: what a passed table tells, and what the code's numbers fit into. Assumes nothing.
-use Prim.Native.Nat.{ℕ, _+_, _*_, _-_, _≤_, _<_}
+use Prim.Native.Nat.{ℕ, zero, suc, _+_, _*_, _-_, _/_, _%_, _^_, _≤_, _<_}
 use native.Mathlib.Omega.{arith}
-use native.Mathlib.Nat.{mul-le-mul}
+use native.Mathlib.Nat.{mul-le-mul, mul-zero, div-zero, div-le-self}
 use mathlib.Core.Path.{_≡_, refl, sym, ap, ap₂, _∙_, subst}
 use mathlib.Core.Bool.{Bool, true, false, cond, _&&_}
-use mathlib.Core.List.{List, [], _∷_}
+use mathlib.Core.List.{List, [], _∷_, _++_}
 use mathlib.Core.Logic.{_⊎_, ⊎-elim}
 use lib.Dec.{T, ltb, leb, eqb}
+use lib.IntN.{ℤ, pos, negℤ, _-ℤ_, +ℤ-idl}
 use lib.ListN.{length}
+use mir.Syntax.{w16}
+use mir.Val.{SFits, toZ, ofZ}
+use mir.Facts.{toZ-pos, toZ-ofZ}
 use types.Run.{OneOf}
 use denote.Enum.Declared.{tagOf}
+use borrow.Author.Needs.{sfits-of}
 use borrow.Author.Tests.{ltb-false, leb-true, leb-false, eqb-true}
-use Rattle.octets.specs.Rows.{Row, firstCode}
-use Rattle.octets.proofs.Laws.{none-holds}
-use Rattle.octets.proofs.Bools.{and-T, by-test}
+use Rattle.octets.specs.Rows.{Row, firstCode, NoneHolds}
+use Rattle.octets.proofs.Laws.{none-holds, none-split}
+use Rattle.octets.proofs.Bools.{and-T, or-neither, by-test}
 use Rattle.memory.specs.declared.Format.{Format}
 use Rattle.memory.specs.declared.Place.{Place}
 use Rattle.memory.specs.declared.Placed.{Placed}
@@ -25,7 +30,7 @@ use Rattle.sequence.proofs.Command.{the-type}
 use Rattle.sequence.specs.declared.RasterWords.{RasterWords}
 use Rattle.sequence.specs.declared.ListCard.{ListCard}
 use Rattle.sequence.specs.Text.{rowOf, fault, numberOf, sizeOf, sizeAt, commandAt}
-use Rattle.sequence.specs.Raster.{rasterAt, needsMark}
+use Rattle.sequence.specs.Raster.{rasterAt, needsMark, asrcWrong, backward, movedBy, shiftOf, startOf, strays, someStrays}
 use Rattle.sequence.specs.LineList.{cardWith}
 use Rattle.sequence.specs.Env.{Env, textOf}
 use Rattle.runner.specs.declared.OpenRaster.{OpenRaster}
@@ -35,21 +40,105 @@ use Rattle.runner.specs.declared.Event.the-variants.{Idle, Raster, Wait}
 use Rattle.runner.specs.declared.Opened.{Opened}
 use Rattle.runner.specs.declared.Opened.the-variants.{Shut, Open}
 use Rattle.runner.specs.declared.Act.the-variants.{Refused}
-use Rattle.runner.specs.Judge.{isOpen, setOf, listRows, flagRows, exposeRows, loopRows, closeRows, judged, judge}
+use Rattle.runner.specs.Judge.{isOpen, repeatBegun, setOf, countRows, listRows, pathRows, flagRows, rasterRows, runRows, exposeRows, loopRows, closeRows, judged, judge}
 use Rattle.runner.specs.Step.{to, openBy, openOf, past, aborted, entered, begun, delayed, act, stepIn, stepOf, Stands}
 use Rattle.runner.specs.With.{withPlace, withRaster, withMirror}
 use Rattle.sequence.proofs.Laws.{Bytes, command-bytes, none-past}
+use Rattle.sequence.proofs.Paths.{leaves-off, start-reaches, start-forward, start-back, moved-less}
 use Rattle.sequence.proofs.Flags.{with-shown, with-missing}
 
--- a raster's reach is a double word's number
-pub reach-fits : (l s : ℕ) → l < 65536 → s < 65536 → (l - 1) * s ≤ 65535 * 65535
-reach-fits l s h k =
+-- ── sums and products of the code
+-- the way from the first pass to the last
+pub far-fits : (l s : ℕ) → l < 65536 → s < 65536 → (l - 1) * s ≤ 65535 * 65535
+far-fits l s h k =
     let a : l - 1 ≤ 65535 = omega arith in
     let b : s ≤ 65535 = omega arith in
     mul-le-mul a b
 
-pub reach-none : (i l s : ℕ) → l ≡ 0 → i ≡ i + (l - 1) * s
-reach-none i l s e = let z : l - 1 ≡ 0 = omega arith in rw z (omega arith)
+pub far-none : (i l s : ℕ) → l ≡ 0 → i ≡ i + (l - 1) * s
+far-none i l s e = let z : l - 1 ≡ 0 = omega arith in rw z (omega arith)
+
+-- how far a start is moved
+pub moved-fits : (asrc skip k : ℕ) → k < 65536 → asrc % 128 * (k / skip) ≤ 127 * 65535
+moved-fits asrc skip k h =
+    let a : asrc % 128 ≤ 127 = omega arith in
+    let b : k / skip ≤ 65535 = omega (arith, div-le-self k skip) in
+    mul-le-mul a b
+
+pub moved-skipless : (asrc skip k : ℕ) → skip ≡ 0 → 0 ≡ asrc % 128 * (k / skip)
+moved-skipless asrc skip k e = rw (e, div-zero k) (sym (mul-zero (asrc % 128)))
+
+-- a signed number taken off 0, as the machine's words have it
+back-is : (m : ℕ) → m ≤ 2400 → pos 0 -ℤ toZ w16 m ≡ negℤ (pos m)
+back-is m h = let l : m < 2 ^ 15 = omega arith in ap (λ (z : ℤ). pos 0 -ℤ z) (toZ-pos w16 l) ∙ +ℤ-idl (negℤ (pos m))
+
+neg-small : (m : ℕ) → m ≤ 2400 → SFits w16 (negℤ (pos m))
+neg-small zero h = sfits-of (omega arith)
+neg-small (suc m) h = sfits-of (omega arith)
+
+pub back-fits : (m : ℕ) → m ≤ 2400 → SFits w16 (pos 0 -ℤ toZ w16 m)
+back-fits m h = rw (back-is m h) (neg-small m h)
+
+pub back-signed : (m : ℕ) → m ≤ 2400 → toZ w16 (ofZ w16 (pos 0 -ℤ toZ w16 m)) ≡ negℤ (pos m)
+back-signed m h = toZ-ofZ (back-fits m h) ∙ back-is m h
+
+pub on-signed : (m : ℕ) → m ≤ 2400 → toZ w16 m ≡ pos m
+on-signed m h = let l : m < 2 ^ 15 = omega arith in toZ-pos w16 l
+
+-- ── the rows of a path with an ASRC byte of 0
+pub path-off : (raster : RasterWords) (k : ℕ) → raster .asrc ≡ 0
+    → firstCode (pathRows raster k)
+    ≡ cond (ltb 2400 (raster .initial)) 14 (cond (ltb 2400 (raster .step)) 14 (cond (ltb 2400 (raster .initial + (raster .loops - 1) * raster .step)) 14 0))
+unfolding pathRows
+path-off raster k e =
+    let good : asrcWrong raster ≡ false = rw e in
+    ap₂ (λ (w l : Bool). cond w 3 (cond (ltb 2400 (raster .initial)) 14 (cond (ltb 2400 (raster .step)) 14 (cond l 14 0)))) good (leaves-off raster e k)
+
+-- ── a repeat whose path no row refuses, moved by m
+module _ (raster : RasterWords) (k : ℕ) (none : NoneHolds (pathRows raster k)) where
+  pub initial-low : raster .initial ≤ 2400
+  unfolding pathRows
+  initial-low = ltb-false 2400 (raster .initial) (none .1 .0)
+
+  -- no repeat strays, nor the one begun
+  pub none-stray : (someStrays raster (raster .repeats) ≡ false) × (strays raster k ≡ false)
+  unfolding pathRows
+  none-stray = or-neither (someStrays raster (raster .repeats)) (strays raster k) (none .1 .1 .1 .0)
+
+  pub begun-stays : strays raster k ≡ false
+  begun-stays = none-stray .1
+
+  module _ (m : ℕ) (is : m ≡ movedBy raster k) where
+    pub back-room : backward raster ≡ true → m ≤ raster .initial
+    back-room b = rw is (moved-less raster k begun-stays b)
+
+    pub back-start : backward raster ≡ true → raster .initial - m ≡ startOf raster k
+    back-start b = rw is (sym (start-back raster k begun-stays b))
+
+    pub back-shift : backward raster ≡ true → negℤ (pos m) ≡ shiftOf raster k
+    back-shift b = rw (is, b)
+
+    pub on-start : backward raster ≡ false → raster .initial + m ≡ startOf raster k
+    on-start b = rw is (sym (start-forward raster k begun-stays b))
+
+    pub on-shift : backward raster ≡ false → pos m ≡ shiftOf raster k
+    on-shift b = rw (is, b)
+
+    pub moved-low : m ≤ 2400
+    moved-low = by-test (backward raster) (λ b. omega (arith, back-room b, initial-low)) (λ b. omega (arith, on-start b, start-reaches raster k begun-stays))
+
+-- where no row refuses a raster, none refuses its path
+pub path-rows : (cards : ℕ → ListCard) (raster : RasterWords) (k : ℕ) → NoneHolds (rasterRows cards raster k) → NoneHolds (pathRows raster k)
+unfolding rasterRows
+path-rows cards raster k none =
+    let path = pathRows raster k in
+    let rest = path ++ flagRows cards raster in
+    let lists = none-split (countRows raster) (listRows cards raster ++ rest) none .1 in
+    none-split path (flagRows cards raster) (none-split (listRows cards raster) rest lists .1) .0
+
+pub path-passed : (cards : ℕ → ListCard) (text : List ℕ) (p : ℕ) (o : Opened) → firstCode (runRows cards text p o) ≡ 0 → NoneHolds (pathRows (rasterAt text p) (repeatBegun o))
+unfolding runRows rasterRows pathRows
+path-passed cards text p o z = path-rows cards (rasterAt text p) (repeatBegun o) (none-holds (runRows cards text p o) tt z .1)
 
 -- ── the rows of a line list and of the flags, from its card without the marks that no flag needs
 module _ (cards : ℕ → ListCard) (raster : RasterWords) (card : ListCard) (is : card ≡ cardWith (needsMark (raster .science)) (cards (raster .list))) where
@@ -112,13 +201,15 @@ module _ (text : List ℕ) (s : Runner) (k : Command) (stands : Stands text s k)
 -- ── a raster begun, from its words as they were read; held: whether it was open
 module _ (F : Format) (text : List ℕ) (s : Runner) (p : ℕ) (stands : (p ≡ s .place) × Stands text s RunRaster) (o : Opened) (held : Bool)
     (open-is : o ≡ openOf F s) (held-is : held ≡ isOpen o) where
-  pub begins : (id start list loops repeats : ℕ) → id ≡ rasterAt text p .id → start ≡ rasterAt text p .initial → list ≡ rasterAt text p .list
-      → loops ≡ rasterAt text p .loops → repeats ≡ cond held (s .raster .repeats) (rasterAt text p .repeats)
+  pub begins : (id start list loops repeats run : ℕ) (shift : ℤ) → run ≡ repeatBegun o → let raster = rasterAt text p in
+      id ≡ raster .id → start ≡ startOf raster run → list ≡ raster .list → loops ≡ raster .loops → repeats ≡ cond held (s .raster .repeats) (raster .repeats)
+      → shift ≡ shiftOf raster run
       → to (Raster id start list)
-      (withPlace (s .place + rowOf RunRaster .size) (withRaster (record { place = s .place; count = 0; passes = loops; repeats = repeats }) (withMirror start s)))
+      (withPlace (s .place + rowOf RunRaster .size)
+      (withRaster (record { place = s .place; count = 0; passes = loops; repeats = repeats; run = run; shift = shift }) (withMirror start s)))
       ≡ begun F text s
   unfolding begun sizeOf
-  begins id start list loops repeats a b l n r = rw (a, b, l, n, r, held-is, open-is, stands .0, past-is text s RunRaster (stands .1))
+  begins id start list loops repeats run shift k a b l n r z = rw (a, b, l, n, r, z, k, held-is, open-is, stands .0, past-is text s RunRaster (stands .1))
 
 pub delays : (text : List ℕ) (s : Runner) (time : ℕ) → Stands text s (Delay time) → to (Wait time) (withPlace (s .place + rowOf (Delay time) .size) s) ≡ delayed text s
 unfolding delayed sizeOf

@@ -4,12 +4,13 @@ use Prim.Native.Nat.{ℕ, zero, suc}
 use mathlib.Core.Path.{_≡_, refl}
 use mathlib.Core.Bool.{true}
 use mathlib.Core.List.{List, [], _∷_, _++_}
+use lib.IntN.{pos}
 use lib.ListN.{replicate}
 use Rattle.octets.specs.Bytes.{xorOn}
 use Rattle.memory.specs.Memory.{flight, bench}
 use Rattle.sequence.specs.Text.{lengthGood, limit, xorGood, headerRows, headerOf, sizeOf, decoded, noneThere, commandAt, sizeAt}
 use Rattle.sequence.specs.Starts.{starts, startsOf, among, exposesBetween, firstExposure, targetGood}
-use Rattle.sequence.specs.Raster.{rasterAt, flagsGood, markMissing, somePast}
+use Rattle.sequence.specs.Raster.{rasterAt, flagsGood, markMissing, someStrays}
 use Rattle.sequence.specs.LineList.{checksumOf, marked, marksOf, listCard}
 use Rattle.sequence.specs.Env.{Env, envOf}
 use Rattle.sequence.proofs.SampleTables.{seqs, lists, lineList, theRaster, longSequence}
@@ -22,7 +23,7 @@ use Rattle.runner.specs.Step.{aborted, entered, begun, advances, exposed
 -- the runner that enters sequence 0
 started : Runner
 started =
-    record { sequence = 0; place = 0; running = true; entering = true; raster = record { place = 255; count = 0; passes = 0; repeats = 0 }; rounds = 0; mirror = 0 }
+    record { sequence = 0; place = 0; running = true; entering = true; raster = record { place = 255; count = 0; passes = 0; repeats = 0; run = 0; shift = pos 0 }; rounds = 0; mirror = 0 }
 
 -- what the next steps over this table show
 shown : Env → List ℕ → ℕ → Runner → List Event
@@ -36,7 +37,7 @@ raster-sample : shown (envOf flight (lists (lineList 1))) (seqs theRaster) 17 st
     ∷ End
     ∷ Idle
     ∷ []
-unfolding started shown xorOn lengthGood limit xorGood headerRows headerOf sizeOf decoded noneThere commandAt sizeAt starts startsOf among exposesBetween firstExposure targetGood rasterAt flagsGood markMissing somePast checksumOf marked marksOf listCard pathRows rasterRows runRows exposeRows loopRows closeRows judged judge aborted entered begun advances exposed looped delayed called ended act stepIn stepOf
+unfolding started shown xorOn lengthGood limit xorGood headerRows headerOf sizeOf decoded noneThere commandAt sizeAt starts startsOf among exposesBetween firstExposure targetGood rasterAt flagsGood markMissing someStrays checksumOf marked marksOf listCard pathRows rasterRows runRows exposeRows loopRows closeRows judged judge aborted entered begun advances exposed looped delayed called ended act stepIn stepOf
 raster-sample = refl
 
 -- the old unit runs a sequence of 255 bytes to its end, with loop targets past 127
@@ -48,5 +49,5 @@ long-sample : shown (envOf bench (lists (lineList 1))) (seqs longSequence) 73 st
     ∷ End
     ∷ Idle
     ∷ [])
-unfolding started shown xorOn lengthGood limit xorGood headerRows headerOf sizeOf decoded noneThere commandAt sizeAt starts startsOf among exposesBetween firstExposure targetGood rasterAt flagsGood markMissing somePast checksumOf marked marksOf listCard pathRows rasterRows runRows exposeRows loopRows closeRows judged judge aborted entered begun advances exposed looped delayed called ended act stepIn stepOf
+unfolding started shown xorOn lengthGood limit xorGood headerRows headerOf sizeOf decoded noneThere commandAt sizeAt starts startsOf among exposesBetween firstExposure targetGood rasterAt flagsGood markMissing someStrays checksumOf marked marksOf listCard pathRows rasterRows runRows exposeRows loopRows closeRows judged judge aborted entered begun advances exposed looped delayed called ended act stepIn stepOf
 long-sample = refl

@@ -1,6 +1,6 @@
 -- What the command at a place comes to, from the text, the place, the open raster and what is known of the line lists alone.
 -- The step acts on this judgement and the table check walks the text with it.
-use Prim.Native.Nat.{ℕ, _+_, _-_}
+use Prim.Native.Nat.{ℕ, _+_}
 use mathlib.Core.Bool.{Bool, true, false, cond, not}
 use mathlib.Core.List.{List, [], _∷_, _++_}
 use lib.Dec.{ltb, leb, eqb}
@@ -12,7 +12,7 @@ use Rattle.sequence.specs.declared.RasterWords.{RasterWords}
 use Rattle.sequence.specs.Text.{limit, sizeAt, commandAt, isRunRaster}
 use Rattle.sequence.specs.Starts.{targetGood}
 use Rattle.sequence.specs.declared.ListCard.{ListCard}
-use Rattle.sequence.specs.Raster.{rasterAt, flagsGood, markMissing, leaves}
+use Rattle.sequence.specs.Raster.{rasterAt, flagsGood, markMissing, asrcWrong, leaves}
 use Rattle.sequence.specs.LineList.{cardShown, marksIn}
 use Rattle.runner.specs.declared.Opened.{Opened}
 use Rattle.runner.specs.declared.Opened.the-variants.{Shut, Open}
@@ -23,21 +23,17 @@ use Rattle.runner.specs.declared.Act.the-variants.{Refused, Opens, Expos
 -- "raster open"
 abbrev pub isOpen : Opened → Bool
 isOpen Shut = false
-isOpen (Open r c n) = true
+isOpen (Open r c k) = true
 
 -- "raster already open": at its own place a run raster is a repeat's jump back
 abbrev pub openElsewhere : ℕ → Opened → Bool
 openElsewhere p Shut = false
-openElsewhere p (Open r c n) = not (eqb (r .0) p)
+openElsewhere p (Open r c k) = not (eqb (r .0) p)
 
--- "a count left of 0 is taken as 1"
-abbrev pub countLeft : ℕ → ℕ
-countLeft n = cond (ltb 1 n) n 1
-
--- the number, from 0, of the raster repeat that a run raster begins: a count left includes the repeat under way
-abbrev pub repeatBegun : RasterWords → Opened → ℕ
-repeatBegun raster Shut = 0
-repeatBegun raster (Open r c n) = raster .repeats - countLeft n
+-- the number, from 0, of the repeat that a run raster begins: the run number, and 0 where it opens the raster
+abbrev pub repeatBegun : Opened → ℕ
+repeatBegun Shut = 0
+repeatBegun (Open r c k) = k
 
 -- how many exposures fill a set: the raster's, and never more than 8
 abbrev pub setOf : RasterWords → ℕ
@@ -61,19 +57,20 @@ countRows raster =
 abbrev pub listRows : (ℕ → ListCard) → RasterWords → List Row
 listRows cards raster = row 6 (ltb 47 (raster .list)) ∷ row 7 (ltb 0 (cardShown (cards (raster .list)) .number)) ∷ []
 
--- "initial or step above 2400, or initial + (loops - 1) x step above 2400, 14"; k: the repeat that is begun
+-- "an ASRC byte other than 0 with no steps, or with skip 0, is 3, tested .. just before 14"; "initial or step above 2400", 14, or "a position
+-- out of range in any repeat, or in the one begun", repeat k
 unfoldable pub pathRows : RasterWords → ℕ → List Row
 pathRows raster k =
-    row 14 (ltb 2400 (raster .initial))
+    row 3 (asrcWrong raster)
+    ∷ row 14 (ltb 2400 (raster .initial))
     ∷ row 14 (ltb 2400 (raster .step))
     ∷ row 14 (leaves raster k)
     ∷ []
 
--- "ASRC not 0 .. 3"; "two forbidden flags stay 3; a missing mark is 7, checked after the flags"
+-- "two forbidden flags stay 3; a missing mark is 7, checked after the flags"
 abbrev pub flagRows : (ℕ → ListCard) → RasterWords → List Row
 flagRows cards raster =
-    row 3 (not (eqb (raster .asrc) 0))
-    ∷ row 3 (not (flagsGood (raster .science)))
+    row 3 (not (flagsGood (raster .science)))
     ∷ row 7 (markMissing (marksIn (cards (raster .list))) (raster .science))
     ∷ []
 
@@ -82,12 +79,12 @@ rasterRows cards raster k = countRows raster ++ (listRows cards raster ++ (pathR
 
 -- "Run raster: raster already open 3 (a repeat's jump back isn't that ..)"
 unfoldable pub runRows : (ℕ → ListCard) → List ℕ → ℕ → Opened → List Row
-runRows cards text p o = row 3 (openElsewhere p o) ∷ rasterRows cards (rasterAt text p) (repeatBegun (rasterAt text p) o)
+runRows cards text p o = row 3 (openElsewhere p o) ∷ rasterRows cards (rasterAt text p) (repeatBegun o)
 
 -- "Expose: no open raster, time 0, or the set already full, 3."
 unfoldable pub exposeRows : List ℕ → ℕ → Opened → List Row
 exposeRows text time Shut = row 3 true ∷ []
-exposeRows text time (Open r c n) =
+exposeRows text time (Open r c k) =
     row 3 (not (isRunRaster (commandAt text (r .0))))
     ∷ row 3 (eqb time 0)
     ∷ row 3 (full text r c)
@@ -96,7 +93,7 @@ exposeRows text time (Open r c n) =
 -- "Loop back: no open raster, set not full, or target not the start of a command .., 3."
 unfoldable pub loopRows : List ℕ → ℕ → ℕ → Opened → List Row
 loopRows text p t Shut = row 3 true ∷ []
-loopRows text p t (Open r c n) =
+loopRows text p t (Open r c k) =
     row 3 (not (isRunRaster (commandAt text (r .0))))
     ∷ row 3 (not (full text r c))
     ∷ row 3 (not (targetGood text (r .0) p t))
@@ -114,7 +111,7 @@ unless code act = cond (eqb code 0) act (Refused code)
 -- an exposure in the open raster
 abbrev pub exposesIn : Opened → Act
 exposesIn Shut = Refused 3
-exposesIn (Open r c n) = Exposes r
+exposesIn (Open r c k) = Exposes r
 
 -- "No command there .., an unknown number, or one that doesn't fit before the checksum: 3."
 unfoldable pub judged : (ℕ → ListCard) → List ℕ → ℕ → Opened → Command → Act

@@ -4,7 +4,7 @@ use mathlib.Core.Path.{_≡_}
 use mathlib.Core.Bool.{Bool, true, false, cond, _&&_}
 use mathlib.Core.List.{List}
 use lib.Dec.{ltb, eqb}
-use Rattle.octets.specs.Bytes.{wordAt}
+use Rattle.octets.specs.Bytes.{wordAt, counted}
 use Rattle.memory.specs.declared.Format.{Format}
 use Rattle.memory.specs.declared.Place.{Place}
 use Rattle.memory.specs.declared.Placed.{Placed}
@@ -16,7 +16,7 @@ use Rattle.sequence.specs.declared.Header.{Header}
 use Rattle.sequence.specs.declared.Header.the-variants.{Repeats, Bad}
 use Rattle.sequence.specs.declared.RasterWords.{RasterWords}
 use Rattle.sequence.specs.Text.{fault, numberOf, sizeOf, sizeAt, commandAt, headerOf}
-use Rattle.sequence.specs.Raster.{rasterAt, startOf}
+use Rattle.sequence.specs.Raster.{rasterAt, shiftOf, startOf}
 use Rattle.sequence.specs.Env.{Env, textOf}
 use Rattle.runner.specs.declared.OpenRaster.{OpenRaster}
 use Rattle.runner.specs.declared.Runner.{Runner}
@@ -27,7 +27,7 @@ use Rattle.runner.specs.declared.Opened.{Opened}
 use Rattle.runner.specs.declared.Opened.the-variants.{Shut, Open}
 use Rattle.runner.specs.declared.Act.{Act}
 use Rattle.runner.specs.declared.Act.the-variants.{Refused, Opens, Exposes, Loops, Waits, Calls, Ends}
-use Rattle.runner.specs.With.{withSequence, withPlace, withRunning, withEntering, withRaster, withRounds, withMirror, openAt, withCount, withPasses, withRepeats}
+use Rattle.runner.specs.With.{withSequence, withPlace, withRunning, withEntering, withRaster, withRounds, withMirror, openAt, withCount, withPasses, withRepeats, withRun}
 use Rattle.runner.specs.Judge.{isOpen, repeatBegun, setOf, judge}
 
 abbrev pub to : Event → Runner → Stepped
@@ -35,7 +35,7 @@ to e s = record { event = e; runner = s }
 
 -- the raster that the runner holds open: 255, or a number that is no place, is none
 abbrev pub openBy : Placed → OpenRaster → Opened
-openBy (At r) o = Open r (o .count) (o .repeats)
+openBy (At r) o = Open r (o .count) (o .run)
 openBy Outside o = Shut
 
 abbrev pub openOf : Format → Runner → Opened
@@ -57,13 +57,22 @@ enteredBy s (Bad f) = aborted f s
 unfoldable pub entered : List ℕ → Runner → Stepped
 entered text s = enteredBy s (headerOf text)
 
--- "The mirror goes home, then to initial; the status takes the line list." A repeat's jump back "doesn't reload repeats".
+-- "The mirror goes home, then to initial", moved by the shift; "the status takes the line list." A repeat's jump back "doesn't reload repeats".
 abbrev pub begunIn : ℕ → RasterWords → Opened → Runner → Stepped
 begunIn next raster o s =
-    to (Raster (raster .id) (startOf raster (repeatBegun raster o)) (raster .list))
+    let k = repeatBegun o in
+    to (Raster (raster .id) (startOf raster k) (raster .list))
     (withPlace next
-    (withRaster (record { place = s .place; count = 0; passes = raster .loops; repeats = cond (isOpen o) (s .raster .repeats) (raster .repeats) })
-    (withMirror (startOf raster (repeatBegun raster o)) s)))
+    (withRaster
+    (record {
+      place = s .place;
+      count = 0;
+      passes = raster .loops;
+      repeats = cond (isOpen o) (s .raster .repeats) (raster .repeats);
+      run = k;
+      shift = shiftOf raster k;
+    })
+    (withMirror (startOf raster k) s)))
 
 unfoldable pub begun : Format → List ℕ → Runner → Stepped
 begun F text s = begunIn (past text s) (rasterAt text (s .place)) (openOf F s) s
@@ -84,11 +93,15 @@ exposedBy next raster s =
 unfoldable pub exposed : List ℕ → Place → Runner → Stepped
 exposed text r s = exposedBy (past text s) (rasterAt text (r .0)) s
 
+-- one repeat fewer, and the next one's number
+abbrev pub nextRepeat : OpenRaster → OpenRaster
+nextRepeat o = withRepeats (o .repeats - 1) (withRun (counted (o .run)) o)
+
 -- "Passes left: jump, new set. Else repeats left: one fewer, jump to the run raster. Else the raster closes."
 unfoldable pub looped : List ℕ → ℕ → Runner → Stepped
 looped text t s =
     cond (ltb 1 (s .raster .passes)) (to (Loop t) (withPlace t (withRaster (withCount 0 (withPasses (s .raster .passes - 1) (s .raster))) s)))
-    (cond (ltb 1 (s .raster .repeats)) (to Next (withPlace (s .raster .place) (withRaster (withRepeats (s .raster .repeats - 1) (s .raster)) s)))
+    (cond (ltb 1 (s .raster .repeats)) (to Next (withPlace (s .raster .place) (withRaster (nextRepeat (s .raster)) s)))
     (to Done (withPlace (past text s) (withRaster (openAt 255 (s .raster)) s))))
 
 unfoldable pub delayed : List ℕ → Runner → Stepped

@@ -27,13 +27,16 @@ withMirror x s = record { sequence = s .sequence; place = s .place; running = s 
 
 -- ── the open raster
 abbrev pub openAt : ℕ → OpenRaster → OpenRaster
-openAt x o = record { place = x; count = o .count; passes = o .passes; repeats = o .repeats }
+openAt x o = record { place = x; count = o .count; passes = o .passes; repeats = o .repeats; run = o .run; shift = o .shift }
 
 abbrev pub withCount : ℕ → OpenRaster → OpenRaster
-withCount x o = record { place = o .place; count = x; passes = o .passes; repeats = o .repeats }
+withCount x o = record { place = o .place; count = x; passes = o .passes; repeats = o .repeats; run = o .run; shift = o .shift }
 
 abbrev pub withPasses : ℕ → OpenRaster → OpenRaster
-withPasses x o = record { place = o .place; count = o .count; passes = x; repeats = o .repeats }
+withPasses x o = record { place = o .place; count = o .count; passes = x; repeats = o .repeats; run = o .run; shift = o .shift }
 
 abbrev pub withRepeats : ℕ → OpenRaster → OpenRaster
-withRepeats x o = record { place = o .place; count = o .count; passes = o .passes; repeats = x }
+withRepeats x o = record { place = o .place; count = o .count; passes = o .passes; repeats = x; run = o .run; shift = o .shift }
+
+abbrev pub withRun : ℕ → OpenRaster → OpenRaster
+withRun x o = record { place = o .place; count = o .count; passes = o .passes; repeats = o .repeats; run = x; shift = o .shift }

@@ -1,16 +1,18 @@
 // The interpreter: what the command at a place comes to, and what one step does with it.
 ghost use mathlib.Core.Path.{_≡_};
-ghost use Prim.Native.Nat.{_+_, _*_, _-_, _<_, _≤_};
+ghost use Prim.Native.Nat.{_+_, _*_, _-_, _/_, _%_, _<_, _≤_};
+ghost use mathlib.Core.Bool.{cond};
+ghost use lib.Dec.{ltb};
 ghost use lib.ListN.{length};
-ghost use Rattle.octets.specs.Rows.{firstCode};
-ghost use Rattle.sequence.specs.declared.RasterWords.{RasterWords};
-ghost use Rattle.sequence.specs.Raster.{rasterAt, startOf, reachOf};
+ghost use Rattle.octets.specs.Bytes.{byteBit};
+ghost use Rattle.octets.specs.Rows.{firstCode, NoneHolds};
+ghost use Rattle.sequence.specs.Raster.{rasterAt, asrcWrong, shiftOf, startOf, strays, leaves};
 ghost use Rattle.sequence.specs.declared.Command.the-variants.{Expose, Delay};
 ghost use Rattle.sequence.specs.Text.{rowOf, fault, sizeAt};
 ghost use Rattle.sequence.specs.Env.{cardsOf, envOf};
-ghost use Rattle.runner.specs.Judge.{isOpen, openElsewhere, countLeft, repeatBegun, setOf, full, countRows, listRows, pathRows, flagRows, rasterRows, runRows, exposeRows, loopRows, closeRows, unless, exposesIn, judge};
-ghost use Rattle.runner.specs.Step.{to, openOf, aborted, entered, advances, exposedAt, another, act, stepIn, stepOf, Stands};
-ghost use Rattle.runner.specs.With.{withPlace, openAt, withCount, withPasses, withRepeats};
+ghost use Rattle.runner.specs.Judge.{isOpen, openElsewhere, repeatBegun, setOf, full, countRows, listRows, pathRows, flagRows, rasterRows, runRows, exposeRows, loopRows, closeRows, unless, exposesIn, judge};
+ghost use Rattle.runner.specs.Step.{to, openOf, aborted, entered, advances, exposedAt, nextRepeat, another, act, stepIn, stepOf, Stands};
+ghost use Rattle.runner.specs.With.{withPlace, openAt, withCount, withPasses};
 use memory::Format;
 use memory::Place;
 use memory::Placed;
@@ -20,12 +22,15 @@ use sequence::Header;
 use sequence::ListCard;
 use sequence::RasterWords;
 
-// The open raster: its place, 255 for none; the exposures made in the present set; the passes and the repeats left.
+// The open raster: the run number of its repeat, from 0; the passes left; its place, 255 for none; the exposures made in the present set; the
+// repeats left; and the signed shift of the repeat's start, which is shown and never read.
 pub struct OpenRaster {
+    pub run: u16,
+    pub passes: u16,
     pub place: u8,
     pub count: u8,
-    pub passes: u16,
     pub repeats: u16,
+    pub shift: i16,
 }
 
 // What the interpreter moves. A count left includes the pass, repeat or round under way; 0 is taken as 1.
@@ -71,10 +76,16 @@ pub struct Sight {
     pub mirror: u16,
 }
 
-// The raster that is open: its place, the exposures made in the set and the repeats left.
+// The raster that is open: its place, the exposures made in the set and the run number.
 pub enum Opened {
     Shut,
     Open(Place, u8, u16),
+}
+
+// Where a repeat begins: the mirror's position, and its signed shift from the initial one.
+struct Start {
+    position: u16,
+    shift: i16,
 }
 
 // What the command at a place comes to: refused with a code, or what it does; an exposure names its raster's place.
@@ -97,20 +108,6 @@ fn unless(code: u8, judgement: Act) -> Act
     } else {
         Act::Refused(code)
     }
-}
-
-// A count left, 0 taken as 1.
-fn count_left(n: u16) -> u16
-    ensures { λ r. ⌜ r ≡ countLeft n ⌝ }
-{
-    if 1 < n { n } else { 1 }
-}
-
-// How many are left of some when others are gone, none where there are no more than those.
-fn less(some: u16, gone: u16) -> u16
-    ensures { λ r. ⌜ r ≡ some - gone ⌝ }
-{
-    if gone < some { some - gone } else { 0 }
 }
 
 impl Opened {
@@ -144,13 +141,13 @@ impl Opened {
         }
     }
 
-    // The number, from 0, of the repeat that a run raster of so many repeats begins.
-    fn repeat_begun(self, repeats: u16) -> u16
-        ensures { λ r. ⌜ ((raster : RasterWords) → repeats ≡ raster .repeats → r ≡ repeatBegun raster self) ⌝ }
+    // The number, from 0, of the repeat that a run raster begins.
+    fn repeat_begun(self) -> u16
+        ensures { λ r. ⌜ r ≡ repeatBegun self ⌝ }
     {
         match self {
             Opened::Shut => 0,
-            Opened::Open(_, _, left) => less(repeats, count_left(left)),
+            Opened::Open(_, _, run) => run,
         }
     }
 }
@@ -174,28 +171,92 @@ fn full(text: &[u8], raster: Place, count: u8) -> bool
     set_of(text, raster) <= count
 }
 
-// Where repeat k of a raster with this initial position begins.
-fn start_of(initial: u16, k: u16) -> u16
-    ensures { λ r. ⌜ ((raster : RasterWords) → initial ≡ raster .initial → r ≡ startOf raster k) ⌝ }
+// Whether the ASRC byte moves the start back: its bit 0.
+fn backward(asrc: u8) -> bool
+    ensures { λ r. ⌜ r ≡ byteBit 0 asrc ⌝ }
 {
-    initial
+    asrc / 128 % 2 == 1
+}
+
+// How far the start of repeat k is moved: the ASRC steps times the whole part of k / skip.
+fn moved_by(asrc: u8, skip: u8, k: u16) -> u32
+    ensures { λ r. ⌜ (r ≡ asrc % 128 * (k / skip)) × (r ≤ 127 * 65535) ⌝ }
+{
+    if skip == 0 {
+        return 0;
+    }
+    (asrc % 128) as u32 * (k / skip as u16) as u32
 }
 
 // Where the last of so many passes stands: the whole sum, not cut to a word.
-fn last_pass(start: u16, loops: u16, step: u16) -> u32
+fn last_pass(start: u32, loops: u16, step: u16) -> u64
     ensures { λ r. ⌜ r ≡ start + (loops - 1) * step ⌝ }
 {
     if loops == 0 {
-        return start as u32;
+        return start as u64;
     }
-    start as u32 + (loops as u32 - 1) * (step as u32)
+    start as u64 + (loops as u64 - 1) * (step as u64)
 }
 
-// Where the last pass of repeat k of a raster stands.
-fn reach(raster: RasterWords, k: u16) -> u32
-    ensures { λ r. ⌜ r ≡ reachOf raster k ⌝ }
+// Whether the last of so many passes is past the end stop.
+fn past_stop(start: u32, loops: u16, step: u16) -> bool
+    ensures { λ r. ⌜ r ≡ ltb 2400 (start + (loops - 1) * step) ⌝ }
 {
-    last_pass(start_of(raster.initial, k), raster.loops, raster.step)
+    (Runner::END_STOP as u64) < last_pass(start, loops, step)
+}
+
+// Whether a position of repeat k is out of 0 to the end stop: that of its first pass below, or that of its last above.
+fn strays(raster: RasterWords, k: u16) -> bool
+    ensures { λ r. ⌜ r ≡ strays raster k ⌝ }
+{
+    let initial = raster.initial as u32;
+    let moved = moved_by(raster.asrc, raster.skip, k);
+    if !backward(raster.asrc) {
+        return past_stop(initial + moved, raster.loops, raster.step);
+    }
+    if initial < moved {
+        return true;
+    }
+    past_stop(initial - moved, raster.loops, raster.step)
+}
+
+// Whether a position of any repeat is out of range, or of repeat k, which is begun. The shift goes one way: the first and the last repeat
+// decide for all.
+fn leaves(raster: RasterWords, k: u16) -> bool
+    ensures { λ r. ⌜ r ≡ leaves raster k ⌝ }
+{
+    if raster.repeats == 0 {
+        return strays(raster, k);
+    }
+    let first = strays(raster, 0);
+    let last = strays(raster, raster.repeats - 1);
+    octets::either(octets::either(first, last), strays(raster, k))
+}
+
+// Where repeat k of the run raster at a place begins, whose path no row refuses.
+fn start_at(text: &[u8], at: Place, k: u16) -> Start
+    requires { ⌜ NoneHolds (pathRows (rasterAt (now text) (at .0)) k) ⌝ }
+    ensures { λ r. ⌜ (r .position ≡ startOf (rasterAt (now (text .entry)) (at .0)) k) × (r .shift ≡ shiftOf (rasterAt (now (text .entry)) (at .0)) k) ⌝ }
+{
+    let initial = sequence::initial_at(text, at);
+    let asrc = sequence::asrc_at(text, at);
+    if asrc == 0 {
+        return Start {
+            position: initial,
+            shift: 0,
+        };
+    }
+    let moved = moved_by(asrc, sequence::skip_at(text, at), k) as u16;
+    if backward(asrc) {
+        return Start {
+            position: initial - moved,
+            shift: -(moved as i16),
+        };
+    }
+    Start {
+        position: initial + moved,
+        shift: moved as i16,
+    }
 }
 
 // Where the mirror stands one step on.
@@ -235,9 +296,19 @@ fn list_fault(raster: RasterWords, card: ListCard) -> u8
     )
 }
 
-// The code with which a raster's path is refused, or 0. Every repeat takes the same path: that of the one begun decides.
-fn path_fault(raster: RasterWords, k: u16) -> u8
-    ensures { λ r. ⌜ r ≡ firstCode (pathRows raster k) ⌝ }
+// Whether an ASRC byte other than 0 has no steps, or skip 0 beside it.
+fn asrc_wrong(raster: RasterWords) -> bool
+    ensures { λ r. ⌜ r ≡ asrcWrong raster ⌝ }
+{
+    octets::both(
+        raster.asrc != 0,
+        octets::either(raster.asrc % 128 == 0, raster.skip == 0),
+    )
+}
+
+// The code with which a raster's positions are refused, or 0, given whether one of them is out of range.
+fn range_fault(raster: RasterWords, leaves: bool) -> u8
+    ensures { λ r. ⌜ r ≡ cond (ltb 2400 (raster .initial)) 14 (cond (ltb 2400 (raster .step)) 14 (cond leaves 14 0)) ⌝ }
 {
     octets::refuse(
         Runner::END_STOP < raster.initial,
@@ -245,9 +316,21 @@ fn path_fault(raster: RasterWords, k: u16) -> u8
         octets::refuse(
             Runner::END_STOP < raster.step,
             14,
-            octets::refuse((Runner::END_STOP as u32) < reach(raster, k), 14, 0),
+            octets::refuse(leaves, 14, 0),
         ),
     )
+}
+
+// The code with which a raster's path is refused, or 0, where repeat k is begun. With an ASRC byte of 0 every repeat takes the same path.
+fn path_fault(raster: RasterWords, k: u16) -> u8
+    ensures { λ r. ⌜ r ≡ firstCode (pathRows raster k) ⌝ }
+{
+    if raster.asrc == 0 {
+        let past = past_stop(raster.initial as u32, raster.loops, raster.step);
+        return range_fault(raster, past);
+    }
+    let range = range_fault(raster, leaves(raster, k));
+    octets::refuse(asrc_wrong(raster), 3, range)
 }
 
 // The code with which a raster's flags are refused, or 0; a mark that is missing comes last.
@@ -256,11 +339,7 @@ fn flag_fault(raster: RasterWords, card: ListCard) -> u8
 {
     let forbidden = !sequence::flags_good(raster.science);
     let missing = card.marks().lack(raster.science);
-    octets::refuse(
-        raster.asrc != 0,
-        3,
-        octets::refuse(forbidden, 3, octets::refuse(missing, 7, 0)),
-    )
+    octets::refuse(forbidden, 3, octets::refuse(missing, 7, 0))
 }
 
 // The code with which a raster's words are refused, or 0: counts, line list, path, flags. The marks of the line list are looked for only
@@ -291,7 +370,7 @@ fn run_fault(text: &[u8], lists: &[u8], at: Place, held: Opened) -> u8
     ensures { λ r. ⌜ r ≡ firstCode (runRows (cardsOf (now (lists .entry))) (now (text .entry)) (at .0) held) ⌝ }
 {
     let raster = sequence::raster_at(text, at);
-    let k = held.repeat_begun(raster.repeats);
+    let k = held.repeat_begun();
     octets::refuse(held.elsewhere(at), 3, raster_fault(raster, lists, k))
 }
 
@@ -372,13 +451,14 @@ impl OpenRaster {
         }
     }
 
-    // One repeat fewer.
+    // One repeat fewer, and the next one's number.
     fn repeat_over(self) -> OpenRaster
         requires { ⌜ 1 < self .repeats ⌝ }
-        ensures { λ r. ⌜ r ≡ withRepeats (self .repeats - 1) self ⌝ }
+        ensures { λ r. ⌜ r ≡ nextRepeat self ⌝ }
     {
         OpenRaster {
             repeats: self.repeats - 1,
+            run: octets::counted(self.run),
             ..self
         }
     }
@@ -413,7 +493,7 @@ impl Runner {
             return Opened::Shut;
         }
         match Place::of(format, raster.place) {
-            Placed::At(place) => Opened::Open(place, raster.count, raster.repeats),
+            Placed::At(place) => Opened::Open(place, raster.count, raster.run),
             Placed::Outside => Opened::Shut,
         }
     }
@@ -460,8 +540,8 @@ impl Runner {
         }
     }
 
-    // The run raster at the place begun: its first repeat, or the next, which doesn't reload the repeats. Every repeat
-    // begins at the initial position.
+    // The run raster at the place begun: its first repeat, or the next, which doesn't reload the repeats. A repeat begins at the initial
+    // position, moved by its shift.
     fn run_raster(self, format: Format, text: &[u8], lists: &[u8], at: Place) -> Stepped
         requires { ⌜ (at .0 ≡ self .place) × Stands (now text) self Command.RunRaster ⌝ }
         ensures { λ r. ⌜ r ≡ act format (now (text .entry)) self (unless (firstCode (runRows (cardsOf (now (lists .entry))) (now (text .entry)) (at .0) (openOf format self))) Act.Opens) ⌝ }
@@ -471,12 +551,13 @@ impl Runner {
         if code != 0 {
             return self.refused(code);
         }
-        let k = held.repeat_begun(sequence::repeats_at(text, at));
-        let start = start_of(sequence::initial_at(text, at), k);
+        let run = held.repeat_begun();
+        let start = start_at(text, at, run);
+        let position = start.position;
         Stepped {
             event: Event::Raster(
                 sequence::id_at(text, at),
-                start,
+                position,
                 sequence::list_at(text, at),
             ),
             runner: Runner {
@@ -490,8 +571,10 @@ impl Runner {
                     } else {
                         sequence::repeats_at(text, at)
                     },
+                    run,
+                    shift: start.shift,
                 },
-                mirror: start,
+                mirror: position,
                 ..self
             },
         }

@@ -16,8 +16,6 @@ use Rattle.sequence.specs.declared.Command.the-variants.{RunRaster, Expo
 use Rattle.sequence.specs.declared.CommandRow.{CommandRow}
 use Rattle.sequence.specs.Text.{limit, lengthGood, rowOf, numberOf, commandsAt, sizeIn, sizeOf, commandIn, decoded, noneThere, commandAt, sizeAt, isRunRaster}
 use Rattle.sequence.specs.Starts.{starts}
-use Rattle.sequence.specs.declared.RasterWords.{RasterWords}
-use Rattle.sequence.specs.Raster.{reachOf, somePast, leaves}
 
 -- ── the checksum's place
 pub limit-below : (text : List ℕ) → lengthGood text ≡ true → limit text < length text
@@ -217,13 +215,3 @@ module _ (text : List ℕ) where
       let g : suc (length text - 1) ≡ length text = omega arith in
       starts-on (length text) p size (λ l. omega arith) e z
       ∙ ap (λ (ps : List ℕ). p ∷ ps) (sym (rw g at (starts-more (length text - 1) (p + size) (omega arith))))
-
--- ── the path of a raster
--- every repeat begins at the same place, so that one leaves the path where any does
-pub leaves-is : (raster : RasterWords) (k : ℕ) → leaves raster k ≡ ltb 2400 (reachOf raster k)
-unfolding somePast
-leaves-is raster k = of (raster .repeats)
-  where
-    of : (n : ℕ) → (somePast raster n || ltb 2400 (reachOf raster k)) ≡ ltb 2400 (reachOf raster k)
-    of zero = refl
-    of (suc n) = by-test (ltb 2400 (reachOf raster k)) (λ e. rw e) (λ e. rw e (rw e at (of n)))

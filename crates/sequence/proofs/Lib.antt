@@ -2,6 +2,7 @@ pub mod Laws
 pub mod Sums
 pub mod Windows
 pub mod Flags
+pub mod Paths
 pub mod Hops
 pub mod Targets
 pub mod SampleTables

@@ -1,8 +1,9 @@
--- A raster's fields from its eleven words, and the tests of its science flags.
+-- A raster's fields from its eleven words, the tests of its science flags, and where its repeats stand.
 use Prim.Native.Nat.{ℕ, zero, suc, _+_, _*_, _-_, _/_, _%_}
-use mathlib.Core.Bool.{Bool, false, not, _&&_, _||_}
+use mathlib.Core.Bool.{Bool, true, false, cond, not, _&&_, _||_}
 use mathlib.Core.List.{List}
-use lib.Dec.{ltb}
+use lib.Dec.{ltb, eqb}
+use lib.IntN.{ℤ, pos, negsuc, negℤ, natAbs, _+ℤ_}
 use Rattle.octets.specs.Bytes.{byteAt, wordAt, byteBit}
 use Rattle.sequence.specs.declared.RasterWords.{RasterWords}
 use Rattle.sequence.specs.declared.Marks.{Marks}
@@ -48,19 +49,48 @@ markMissing marks science =
 unfoldable pub needsMark : ℕ → Bool
 needsMark science = byteBit 3 science || (byteBit 4 science || byteBit 5 science)
 
--- where repeat k of a raster begins
+-- ── the mirror's positions
+-- "the ASRC byte of document 002: bit 0 direction (0 forward, 1 backward), seven bits of mirror steps, with the skip byte"
+abbrev pub backward : RasterWords → Bool
+backward raster = byteBit 0 (raster .asrc)
+
+abbrev pub asrcSteps : RasterWords → ℕ
+asrcSteps raster = raster .asrc % 128
+
+-- "an ASRC byte other than 0 with no steps, or with skip 0"
+abbrev pub asrcWrong : RasterWords → Bool
+asrcWrong raster = not (eqb (raster .asrc) 0) && (eqb (asrcSteps raster) 0 || eqb (raster .skip) 0)
+
+-- "In raster repeat k, from 0, the initial position moves by steps times the whole part of k / skip"; a byte of 0 has no steps, whatever its skip
+abbrev pub movedBy : RasterWords → ℕ → ℕ
+movedBy raster k = asrcSteps raster * (k / raster .skip)
+
+-- "forward (added) or back (taken off)": the signed shift
+abbrev pub shiftOf : RasterWords → ℕ → ℤ
+shiftOf raster k = cond (backward raster) (negℤ (pos (movedBy raster k))) (pos (movedBy raster k))
+
+-- where repeat k begins: a signed sum, never cut
+abbrev pub beginsAt : RasterWords → ℕ → ℤ
+beginsAt raster k = pos (raster .initial) +ℤ shiftOf raster k
+
+-- and as the mirror's number, where it is one
 abbrev pub startOf : RasterWords → ℕ → ℕ
-startOf raster k = raster .initial
+startOf raster k = natAbs (beginsAt raster k)
 
--- where the last pass of repeat k stands
-abbrev pub reachOf : RasterWords → ℕ → ℕ
-reachOf raster k = startOf raster k + (raster .loops - 1) * raster .step
+-- out of "0 to 2400"
+abbrev pub outside : ℤ → Bool
+outside (pos n) = ltb 2400 n
+outside (negsuc n) = true
 
--- "initial + (loops - 1) x step above 2400", in one of the first n repeats
-unfoldable pub somePast : RasterWords → ℕ → Bool
-somePast raster zero = false
-somePast raster (suc k) = ltb 2400 (reachOf raster k) || somePast raster k
+-- a position of repeat k is: its first pass's, or its last's, (loops - 1) x step further on
+abbrev pub strays : RasterWords → ℕ → Bool
+strays raster k = outside (beginsAt raster k) || outside (beginsAt raster k +ℤ pos ((raster .loops - 1) * raster .step))
 
--- in any repeat, or in repeat k, which is begun
+-- one of the first n repeats strays
+unfoldable pub someStrays : RasterWords → ℕ → Bool
+someStrays raster zero = false
+someStrays raster (suc k) = strays raster k || someStrays raster k
+
+-- "a position out of range in any repeat, or in the one begun", repeat k
 abbrev pub leaves : RasterWords → ℕ → Bool
-leaves raster k = somePast raster (raster .repeats) || ltb 2400 (reachOf raster k)
+leaves raster k = someStrays raster (raster .repeats) || strays raster k

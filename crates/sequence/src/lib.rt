@@ -332,11 +332,25 @@ pub fn exposures_at(text: &[u8], at: Place) -> u8
     byte_after(text, at, 13) % 16
 }
 
+// The ASRC byte of the run raster at a place.
+pub fn asrc_at(text: &[u8], at: Place) -> u8
+    ensures { λ r. ⌜ r ≡ rasterAt (now (text .entry)) (at .0) .asrc ⌝ }
+{
+    byte_after(text, at, 14)
+}
+
 // The repeats of the run raster at a place.
 pub fn repeats_at(text: &[u8], at: Place) -> u16
     ensures { λ r. ⌜ r ≡ rasterAt (now (text .entry)) (at .0) .repeats ⌝ }
 {
     word_after(text, at, 15) % 4096
+}
+
+// The ASRC skip of the run raster at a place.
+pub fn skip_at(text: &[u8], at: Place) -> u8
+    ensures { λ r. ⌜ r ≡ rasterAt (now (text .entry)) (at .0) .skip ⌝ }
+{
+    byte_after(text, at, 17)
 }
 
 // The mirror's step in the run raster at a place.

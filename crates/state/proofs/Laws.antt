@@ -29,14 +29,14 @@ use Rattle.state.specs.Parts.{ledgerOver, obeyedOver, answerOver, stepOv
 
 -- ── the bytes of a state
 -- saving what was loaded gives the bytes back
-pub load-save : (s : List ℕ) → length s ≡ 32 → Octets s → flagsWrong s ≡ false → stateOf (unitOf s) ≡ s
+pub load-save : (s : List ℕ) → length s ≡ 36 → Octets s → flagsWrong s ≡ false → stateOf (unitOf s) ≡ s
 unfolding unitOf stateOf flagsWrong
-load-save s h o f = simp (eq-eqb (length s) 32 h) (laid-reads (stateFields powerOn) s (rw h tt) o f)
+load-save s h o f = simp (eq-eqb (length s) 36 h) (laid-reads (stateFields powerOn) s (rw h tt) o f)
 
 -- loading what was saved gives the unit back
 pub save-load : (u : Unit) → AllFit (stateFields u) → unitOf (stateOf u) ≡ u
 unfolding unitOf stateOf
-save-load u h = ap unitFrom (reads-laid (stateFields u) 32 tt h)
+save-load u h = ap unitFrom (reads-laid (stateFields u) 36 tt h)
 
 -- ── a packet
 -- a mode change, whether it starts, stops or neither

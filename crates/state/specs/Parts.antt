@@ -6,7 +6,8 @@ use lib.Dec.{leb, eqb}
 use lib.ListN.{set}
 use lib.Seq.{sets}
 use Rattle.octets.specs.Bytes.{two}
-use Rattle.octets.specs.Layout.{flag}
+use Rattle.octets.specs.Layout.{flag, complement}
+use Rattle.runner.specs.declared.OpenRaster.{OpenRaster}
 use Rattle.runner.specs.declared.Runner.{Runner}
 use Rattle.runner.specs.declared.Event.{Event}
 use Rattle.runner.specs.declared.Event.the-variants.{Idle, Enter, Raster, Exp, Loop, Next, Done, Wait, Call, End, Abort}
@@ -35,9 +36,17 @@ placeOver r s = sets s 16 (r .sequence ∷ r .place ∷ [])
 abbrev pub runOver : Watch → Runner → List ℕ → List ℕ
 runOver w r s = sets (sets (set s 10 (w .abort)) 19 (two (w .exposures))) 23 (flag (r .running) ∷ flag (r .entering) ∷ r .raster .place ∷ [])
 
+-- the run number and the shift
+abbrev pub shiftOver : OpenRaster → List ℕ → List ℕ
+shiftOver o s = sets s 32 (two (o .run) ++ two (complement (o .shift)))
+
 -- the mirror and the open raster
 abbrev pub rasterOver : Runner → List ℕ → List ℕ
-rasterOver r s = sets (sets s 21 (two (r .mirror))) 25 ((r .raster .place ∷ r .raster .count ∷ two (r .raster .passes)) ++ two (r .raster .repeats))
+rasterOver r s = shiftOver (r .raster) (sets (sets s 21 (two (r .mirror))) 25 ((r .raster .place ∷ r .raster .count ∷ two (r .raster .passes)) ++ two (r .raster .repeats)))
+
+-- the repeats and the rounds left, and the run number
+abbrev pub nextOver : Runner → List ℕ → List ℕ
+nextOver r s = sets s 29 (two (r .raster .repeats) ++ (r .rounds ∷ two (r .raster .run)))
 
 -- ── a packet
 -- obeyed, of this command
@@ -64,7 +73,7 @@ movedOver (Enter n) v s = set (set s 24 (flag (v .runner .entering))) 31 (v .run
 movedOver (Raster id pos list) v s = rasterOver (v .runner) (set s 18 list)
 movedOver (Exp pos) v s = set (sets s 19 (two (v .watch .exposures) ++ two (v .runner .mirror))) 26 (v .runner .raster .count)
 movedOver (Loop place) v s = sets s 26 (v .runner .raster .count ∷ two (v .runner .raster .passes))
-movedOver Next v s = set (sets s 29 (two (v .runner .raster .repeats))) 31 (v .runner .rounds)
+movedOver Next v s = nextOver (v .runner) s
 movedOver Done v s = set s 25 (v .runner .raster .place)
 movedOver (Wait t) v s = s
 movedOver (Call n) v s = set (set s 16 (v .runner .sequence)) 24 (flag (v .runner .entering))

@@ -1,17 +1,18 @@
--- The unit's state in 32 lent bytes, words high byte first.
+-- The unit's state in 36 lent bytes, words high byte first.
 use Prim.Native.Nat.{ℕ}
 use mathlib.Core.Bool.{Bool, cond}
 use mathlib.Core.List.{List, [], _∷_}
 use lib.Dec.{eqb}
 use lib.ListN.{length}
-use Rattle.octets.specs.Layout.{Field, field, laid, reads, wrong, numberAt, flagAt}
-use Rattle.octets.specs.Layout.Cell.{Byte, Word, Flag}
+use Rattle.octets.specs.Layout.{Field, field, laid, reads, wrong, numberAt, flagAt, integerAt}
+use Rattle.octets.specs.Layout.Cell.{Byte, Word, Signed, Flag}
 use Rattle.unit.specs.declared.Unit.{Unit}
 use Rattle.unit.specs.State.{powerOn}
 
 -- "0 mode; 1 mode changes allowed; 2-3 STATUS_PC; 4-5 received; 6-7 failed; 8 failed code; 9 failed number; 10 abort code; 11-14 log;
 -- 15 selection, 255 none; 16 status sequence, 255 none; 17 place; 18 line list; 19-20 exposures; 21-22 mirror; 23 running; 24 entering;
--- 25 open raster's place, 255 none; 26 exposures in the set; 27-28 passes left; 29-30 raster repeats left; 31 rounds left"
+-- 25 open raster's place, 255 none; 26 exposures in the set; 27-28 passes left; 29-30 raster repeats left; 31 rounds left;
+-- 32-33 run number; 34-35 the shift, two's complement"
 abbrev pub stateFields : Unit → List Field
 stateFields u =
     field 0 (Byte (u .control .mode))
@@ -39,6 +40,8 @@ stateFields u =
     ∷ field 27 (Word (u .runner .raster .passes))
     ∷ field 29 (Word (u .runner .raster .repeats))
     ∷ field 31 (Byte (u .runner .rounds))
+    ∷ field 32 (Word (u .runner .raster .run))
+    ∷ field 34 (Signed (u .runner .raster .shift))
     ∷ []
 
 unfoldable pub stateOf : Unit → List ℕ
@@ -64,14 +67,14 @@ unitFrom f =
             place = numberAt f 17;
             running = flagAt f 23;
             entering = flagAt f 24;
-            raster = record { place = numberAt f 25; count = numberAt f 26; passes = numberAt f 27; repeats = numberAt f 29 };
+            raster = record { place = numberAt f 25; count = numberAt f 26; passes = numberAt f 27; repeats = numberAt f 29; run = numberAt f 32; shift = integerAt f 34 };
             rounds = numberAt f 31;
             mirror = numberAt f 21;
           };
     }
 
 abbrev pub stateSized : List ℕ → Bool
-stateSized s = eqb (length s) 32
+stateSized s = eqb (length s) 36
 
 -- the fields stand where they do in any unit's table
 abbrev pub heldUnit : List ℕ → Unit

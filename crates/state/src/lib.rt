@@ -1,13 +1,14 @@
-// The unit kept as the 32 bytes of the library's state: read out of them, and what changed written over them. Nothing is written past
+// The unit kept as the 36 bytes of the library's state: read out of them, and what changed written over them. Nothing is written past
 // the end of a slice.
 ghost use mathlib.Core.Path.{_≡_};
 ghost use Prim.Native.Nat.{_+_, _<_};
 ghost use lib.ListN.{length, set};
 ghost use lib.Seq.{sets};
 ghost use Rattle.octets.specs.Bytes.{wordAt, two};
-ghost use Rattle.octets.specs.Layout.{flag};
+ghost use Rattle.octets.specs.Layout.{flag, complement, signed};
+ghost use Rattle.unit.specs.State.{withRunner};
 ghost use Rattle.state.specs.State.{heldUnit, unitOf, flagsWrong};
-ghost use Rattle.state.specs.Parts.{logOver, ledgerOver, placeOver, runOver, rasterOver, stepOver, obeyedOver, answerOver};
+ghost use Rattle.state.specs.Parts.{logOver, ledgerOver, placeOver, runOver, shiftOver, rasterOver, nextOver, stepOver, obeyedOver, answerOver};
 use runner::Event;
 use runner::OpenRaster;
 use runner::Runner;
@@ -20,7 +21,7 @@ use unit::Answer;
 use unit::Unit;
 
 // The bytes that hold a state.
-const STATE: usize = 32;
+const STATE: usize = 36;
 
 // The word at a place inside a state.
 fn word_in(state: &[u8], at: usize) -> u16
@@ -30,9 +31,19 @@ fn word_in(state: &[u8], at: usize) -> u16
     octets::pair(state[at], state[at + 1])
 }
 
+// The signed number that a word is the two's complement of.
+fn signed_of(word: u16) -> i16
+    ensures { λ r. ⌜ r ≡ signed word ⌝ }
+{
+    if word < 32768 {
+        return word as i16;
+    }
+    -1 - (65535 - word) as i16
+}
+
 // The ledger that the bytes of a state hold.
 fn ledger_of(state: &[u8]) -> Ledger
-    requires { ⌜ length (now state) ≡ 32 ⌝ }
+    requires { ⌜ length (now state) ≡ 36 ⌝ }
     ensures { λ r. ⌜ r ≡ heldUnit (now (state .entry)) .ledger ⌝ }
 {
     Ledger {
@@ -51,7 +62,7 @@ fn ledger_of(state: &[u8]) -> Ledger
 
 // The mode, the permission, the requests and the selection that the bytes of a state hold.
 fn control_of(state: &[u8]) -> Control
-    requires { ⌜ length (now state) ≡ 32 ⌝ }
+    requires { ⌜ length (now state) ≡ 36 ⌝ }
     ensures { λ r. ⌜ r ≡ heldUnit (now (state .entry)) .control ⌝ }
 {
     Control {
@@ -64,7 +75,7 @@ fn control_of(state: &[u8]) -> Control
 
 // What the status takes from a run, as the bytes of a state hold it.
 fn watch_of(state: &[u8]) -> Watch
-    requires { ⌜ length (now state) ≡ 32 ⌝ }
+    requires { ⌜ length (now state) ≡ 36 ⌝ }
     ensures { λ r. ⌜ r ≡ heldUnit (now (state .entry)) .watch ⌝ }
 {
     Watch {
@@ -74,11 +85,13 @@ fn watch_of(state: &[u8]) -> Watch
     }
 }
 
-// The run that the bytes of a state hold.
-fn runner_of(state: &[u8]) -> Runner
-    requires { ⌜ length (now state) ≡ 32 ⌝ }
-    ensures { λ r. ⌜ r ≡ heldUnit (now (state .entry)) .runner ⌝ }
+// The runner that the bytes of a state hold; bytes of another size hold that of power-on.
+pub fn runner_of(state: &[u8]) -> Runner
+    ensures { λ r. ⌜ r ≡ unitOf (now (state .entry)) .runner ⌝ }
 {
+    if state.len() != STATE {
+        return Unit::power_on().runner;
+    }
     Runner {
         sequence: state[16],
         place: state[17],
@@ -89,24 +102,30 @@ fn runner_of(state: &[u8]) -> Runner
             count: state[26],
             passes: word_in(state, 27),
             repeats: word_in(state, 29),
+            run: word_in(state, 32),
+            shift: signed_of(word_in(state, 34)),
         },
         rounds: state[31],
         mirror: word_in(state, 21),
     }
 }
 
-// The unit that the bytes of a state hold; bytes of another size hold the unit at power-on.
-pub fn unit_of(state: &[u8]) -> Unit
-    ensures { λ r. ⌜ r ≡ unitOf (now (state .entry)) ⌝ }
+// The unit that the bytes of a state hold, with this runner; bytes of another size hold that of power-on. The runner is read apart, since
+// the compiler takes two small reads into a call, and not one large.
+pub fn unit_of(state: &[u8], runner: Runner) -> Unit
+    ensures { λ r. ⌜ r ≡ withRunner runner (unitOf (now (state .entry))) ⌝ }
 {
     if state.len() != STATE {
-        return Unit::power_on();
+        return Unit {
+            runner,
+            ..Unit::power_on()
+        };
     }
     Unit {
         ledger: ledger_of(state),
         control: control_of(state),
         watch: watch_of(state),
-        runner: runner_of(state),
+        runner,
     }
 }
 
@@ -121,11 +140,21 @@ fn put(state: &mut [u8], at: usize, n: u8)
 
 // Writes a word at a place, high byte first.
 fn put_word(state: &mut [u8], at: usize, n: u16)
-    requires { ⌜ at < 32 ⌝ }
+    requires { ⌜ at < 36 ⌝ }
     ensures { λ _. ⌜ now (state .exit) ≡ sets (now (state .entry)) at (two n) ⌝ }
 {
     put(state, at, (n / 256 % 256) as u8);
     put(state, at + 1, (n % 256) as u8);
+}
+
+// The two's complement of a signed number.
+fn complement(n: i16) -> u16
+    ensures { λ r. ⌜ r ≡ complement n ⌝ }
+{
+    if n < 0 {
+        return 65535 - (-1 - n) as u16;
+    }
+    n as u16
 }
 
 // A flag's byte.
@@ -182,6 +211,15 @@ fn save_run(watch: Watch, runner: Runner, state: &mut [u8])
     put(state, 25, runner.raster.place);
 }
 
+// Writes the run number and the shift over the bytes of a state.
+fn save_shift(raster: OpenRaster, state: &mut [u8])
+    ensures { λ _. ⌜ now (state .exit) ≡ shiftOver raster (now (state .entry)) ⌝ }
+{
+    let shift = complement(raster.shift);
+    put_word(state, 32, raster.run);
+    put_word(state, 34, shift);
+}
+
 // Writes the mirror and the open raster over the bytes of a state.
 fn save_raster(runner: Runner, state: &mut [u8])
     ensures { λ _. ⌜ now (state .exit) ≡ rasterOver runner (now (state .entry)) ⌝ }
@@ -191,6 +229,7 @@ fn save_raster(runner: Runner, state: &mut [u8])
     put(state, 26, runner.raster.count);
     put_word(state, 27, runner.raster.passes);
     put_word(state, 29, runner.raster.repeats);
+    save_shift(runner.raster, state);
 }
 
 // Writes what an obeyed packet of this command changed over the bytes of a state, from the unit after it.
@@ -245,6 +284,15 @@ pub fn save_answer(answer: Answer, packet: &[u8], state: &mut [u8])
     }
 }
 
+// Writes the repeats and the rounds left and the run number over the bytes of a state.
+fn save_next(runner: Runner, state: &mut [u8])
+    ensures { λ _. ⌜ now (state .exit) ≡ nextOver runner (now (state .entry)) ⌝ }
+{
+    put_word(state, 29, runner.raster.repeats);
+    put(state, 31, runner.rounds);
+    put_word(state, 32, runner.raster.run);
+}
+
 // Writes what a step of this event moved over the bytes of a state, the place always, from the unit after it.
 pub fn save_step(event: Event, unit: Unit, state: &mut [u8])
     ensures { λ _. ⌜ now (state .exit) ≡ stepOver event unit (now (state .entry)) ⌝ }
@@ -269,10 +317,7 @@ pub fn save_step(event: Event, unit: Unit, state: &mut [u8])
             put(state, 26, unit.runner.raster.count);
             put_word(state, 27, unit.runner.raster.passes);
         }
-        Event::Next => {
-            put_word(state, 29, unit.runner.raster.repeats);
-            put(state, 31, unit.runner.rounds);
-        }
+        Event::Next => save_next(unit.runner, state),
         Event::Done => put(state, 25, unit.runner.raster.place),
         Event::Wait(_) => {}
         Event::Call(_) => {

@@ -1,10 +1,10 @@
 -- What the unit shows of itself, and how it changes: the counts and the log, what commands set, what a run leaves.
-use Prim.Native.Nat.{ℕ, _+_, _%_, _^_}
+use Prim.Native.Nat.{ℕ}
 use mathlib.Core.Bool.{Bool, cond}
 use mathlib.Core.List.{List}
 use lib.Dec.{ltb}
 use lib.ListN.{length}
-use Rattle.octets.specs.Bytes.{byteAt}
+use Rattle.octets.specs.Bytes.{byteAt, counted}
 use Rattle.runner.specs.declared.Event.{Event}
 use Rattle.runner.specs.declared.Event.the-variants.{Idle, Enter, Raster, Exp, Loop, Next, Done, Wait, Call, End, Abort}
 use Rattle.status.specs.declared.Log.{Log}
@@ -35,10 +35,6 @@ abbrev pub withAbort : ℕ → Watch → Watch
 withAbort x u = record { list = u .list; exposures = u .exposures; abort = x }
 
 -- ── counts and log
--- "Counters are 16 bits and wrap."
-abbrev pub counted : ℕ → ℕ
-counted n = (n + 1) % 2 ^ 16
-
 -- "log: BC1, BC2, BC3 (0 where absent), length (255 if above 133)"
 abbrev pub logOf : List ℕ → Log
 logOf p = record { bc1 = byteAt p 0; bc2 = byteAt p 1; bc3 = byteAt p 2; size = cond (ltb 133 (length p)) 255 (length p) }

@@ -8,7 +8,7 @@ ghost use lib.ListN.{length, set};
 ghost use lib.Seq.{sets};
 ghost use Rattle.octets.specs.Bytes.{halves, two, four};
 ghost use Rattle.memory.specs.Memory.{written};
-ghost use Rattle.status.specs.State.{counted, logOf, arrived, failed, cleared, watched};
+ghost use Rattle.status.specs.State.{logOf, arrived, failed, cleared, watched};
 ghost use Rattle.status.specs.Status.{running, orZero, statusBytes};
 use runner::Event;
 use runner::Runner;
@@ -71,20 +71,13 @@ fn log_of(pkt: &[u8]) -> Log
     }
 }
 
-// A count one on: 16 bits, wrapping.
-pub fn counted(n: u16) -> u16
-    ensures { λ r. ⌜ r ≡ counted n ⌝ }
-{
-    if n == 65535 { 0 } else { n + 1 }
-}
-
 impl Ledger {
     // A packet counted and logged.
     pub fn arrived(self, pkt: &[u8]) -> Ledger
         ensures { λ r. ⌜ r ≡ arrived (now (pkt .entry)) self ⌝ }
     {
         Ledger {
-            received: counted(self.received),
+            received: octets::counted(self.received),
             log: log_of(pkt),
             ..self
         }
@@ -95,7 +88,7 @@ impl Ledger {
         ensures { λ r. ⌜ r ≡ failed number code self ⌝ }
     {
         Ledger {
-            failed: counted(self.failed),
+            failed: octets::counted(self.failed),
             code,
             number,
             ..self
@@ -123,7 +116,7 @@ pub fn watched(event: Event, watch: Watch) -> Watch
         Event::Enter(_) => watch,
         Event::Raster(_, _, list) => Watch { list, ..watch },
         Event::Exp(_) => Watch {
-            exposures: counted(watch.exposures),
+            exposures: octets::counted(watch.exposures),
             ..watch
         },
         Event::Loop(_) => watch,

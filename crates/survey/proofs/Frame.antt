@@ -58,7 +58,7 @@ module _ (cards cards′ : ℕ → ListCard) where
   module _ (text : List ℕ) (p : ℕ) (h : SameAt text p) where
     same-judged : (o : Opened) (k : Command) → commandAt text p ≡ k → judged cards′ text p o k ≡ judged cards text p o k
     unfolding judged runRows
-    same-judged o RunRaster e = rw (same-rows (rasterAt text p) (repeatBegun (rasterAt text p) o) (h e))
+    same-judged o RunRaster e = rw (same-rows (rasterAt text p) (repeatBegun o) (h e))
     same-judged o (Expose t) e = refl
     same-judged o (LoopBack t) e = refl
     same-judged o (CallSequence n) e = refl

@@ -198,7 +198,7 @@ going-start cards text short =
 -- the round past the command of an act, where the walk goes on
 abbrev pub roundPast : List ℕ → Place → Round → Act → Round
 roundPast text at r (Refused code) = r
-roundPast text at r Opens = moved (rowOf RunRaster .size) (Open at 0 (rasterAt text (at .0) .repeats)) 0 0 r
+roundPast text at r Opens = moved (rowOf RunRaster .size) (Open at 0 0) 0 0 r
 roundPast text at r (Exposes o) = moved (rowOf (Expose 0) .size) (oneMore (r .held)) 0 0 r
 roundPast text at r (Loops t) = loopedIn text t (r .held) r
 roundPast text at r Waits = moved (rowOf (Delay 0) .size) (r .held) (pauseIn (r .held)) 0 r

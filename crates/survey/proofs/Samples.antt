@@ -8,7 +8,7 @@ use Rattle.octets.proofs.Samples.{Sample, sample, allRight}
 use Rattle.memory.specs.Memory.{flight, formatOf, fills, tablesWrong, entryOf}
 use Rattle.sequence.specs.Text.{limit, lengthGood, xorGood, headerRows, headerOf, sizeOf, decoded, noneThere, commandAt, sizeAt}
 use Rattle.sequence.specs.Starts.{starts, startsOf, among, exposesBetween, firstExposure, targetGood}
-use Rattle.sequence.specs.Raster.{rasterAt, flagsGood, markMissing, somePast}
+use Rattle.sequence.specs.Raster.{rasterAt, flagsGood, markMissing, someStrays}
 use Rattle.sequence.specs.LineList.{checksumOf, marked, marksOf, listCard}
 use Rattle.sequence.specs.Env.{envOf}
 use Rattle.sequence.proofs.SampleTables.{seqs, lists, lineList, theRaster, calls, delays, longSequence}
@@ -74,5 +74,5 @@ samples =
     ∷ []
 
 pub samples-right : allRight samples ≡ true
-unfolding xorOn fills tablesWrong limit lengthGood xorGood headerRows headerOf sizeOf decoded noneThere commandAt sizeAt starts startsOf among exposesBetween firstExposure targetGood rasterAt flagsGood markMissing somePast checksumOf marked marksOf listCard pathRows rasterRows runRows exposeRows loopRows closeRows judged judge walked walk checkOne onward follow chainOf checkRows checkOf
+unfolding xorOn fills tablesWrong limit lengthGood xorGood headerRows headerOf sizeOf decoded noneThere commandAt sizeAt starts startsOf among exposesBetween firstExposure targetGood rasterAt flagsGood markMissing someStrays checksumOf marked marksOf listCard pathRows rasterRows runRows exposeRows loopRows closeRows judged judge walked walk checkOne onward follow chainOf checkRows checkOf
 samples-right = refl

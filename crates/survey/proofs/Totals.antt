@@ -124,7 +124,7 @@ module _ (cards : ℕ → ListCard) (text : List ℕ) (oct : Octets text) (short
     small-walked : (p : ℕ) (o : Opened) (a : Act) → Small (suc f * 2 ^ 37) (walked cards text go p o a)
     unfolding walked
     small-walked p o (Refused code) = tt
-    small-walked p o Opens = more (go _ _) (ih (p + sizeAt text p) (Open (placeAt p) 0 (rasterAt text p .repeats)))
+    small-walked p o Opens = more (go _ _) (ih (p + sizeAt text p) (Open (placeAt p) 0 0))
     small-walked p o (Exposes r) = more (go _ _) (ih (p + sizeAt text p) (oneMore o))
     small-walked p o (Loops t) = small-closed p t o (go (p + sizeAt text p) Shut) (ih _ Shut)
     small-walked p o Waits = small-paused p o (go (p + sizeAt text p) o) (ih _ o)

@@ -42,12 +42,12 @@ pub record RoomFor (size k x : ℕ) (r : Round) : Type 0 where
 
 abbrev pub exposuresIn : Opened → ℕ
 exposuresIn Shut = 0
-exposuresIn (Open r c left) = c
+exposuresIn (Open r c k) = c
 
 -- the steps of a delay: one of its own where no raster is open
 abbrev pub pauseIn : Opened → ℕ
 pauseIn Shut = 1
-pauseIn (Open r c left) = 0
+pauseIn (Open r c k) = 0
 
 -- how many commands stand from p up to t, at most f of them
 unfoldable pub between : List ℕ → ℕ → ℕ → ℕ → ℕ
@@ -64,7 +64,7 @@ scannedIn text i r = moved (rowOf (LoopBack 0) .size) Shut (itemSteps text i) (i
 
 abbrev pub loopedIn : List ℕ → ℕ → Opened → Round → Round
 loopedIn text t Shut r = moved (rowOf (LoopBack t) .size) Shut 0 0 r
-loopedIn text t (Open at c left) r = scannedIn text (countedScan text (at .0) t (r .place)) r
+loopedIn text t (Open at c k) r = scannedIn text (countedScan text (at .0) t (r .place)) r
 
 -- ── all rounds
 abbrev pub allRounds : Format → ℕ → Walked → Walked

@@ -32,7 +32,7 @@ abbrev pub exposuresOf : List ℕ → List Item → ℕ
 exposuresOf text [] = 0
 exposuresOf text (i ∷ is) = itemExposures text i + exposuresOf text is
 
--- "Exposure k of one raster repeat, from 0, is at initial + step x (k / exposures, whole part)."
+-- "Exposure k of one raster repeat, from 0, is at initial + step x (k / exposures, whole part)", the initial position moved for this turn
 abbrev pub positionAt : RasterWords → ℕ → ℕ → ℕ
 positionAt raster turn k = startOf raster turn + raster .step * (k / raster .exposures)
 

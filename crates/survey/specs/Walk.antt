@@ -54,17 +54,17 @@ scan text r t q = Scan r t q (commands text (r + sizeAt text r) t) (commands tex
 -- the open raster after one exposure more
 abbrev pub oneMore : Opened → Opened
 oneMore Shut = Shut
-oneMore (Open r c left) = Open r (c + 1) left
+oneMore (Open r c k) = Open r (c + 1) k
 
 -- a delay outside rasters is an item; in a raster it is one of the raster's commands
 abbrev pub paused : List ℕ → ℕ → Opened → Finding → Finding
 paused text p Shut found = inFront text (Pause p) found
-paused text p (Open r c left) found = found
+paused text p (Open r c k) found = found
 
 -- the loop back at q to t closes the open raster
 abbrev pub closed : List ℕ → ℕ → ℕ → Opened → Finding → Finding
 closed text q t Shut found = found
-closed text q t (Open r c left) found = inFront text (scan text (r .0) t q) found
+closed text q t (Open r c k) found = inFront text (scan text (r .0) t q) found
 
 -- "the table check .. show[s] the reason": of a 7 what the line list test answers for the list that the run raster at its place names;
 -- where that is good, a mark is missing
@@ -78,7 +78,7 @@ reasonFor cards text f = cond (eqb (f .code) 7) (reasonIn (cards (rasterAt text 
 -- what an act at p comes to; o: the open raster, go: the walk of the text after this command
 unfoldable pub walked : (ℕ → ListCard) → List ℕ → (ℕ → Opened → Finding) → ℕ → Opened → Act → Finding
 walked cards text go p o (Refused code) = faults (fault code p) (reasonFor cards text (fault code p))
-walked cards text go p o Opens = go (p + sizeAt text p) (Open (placeAt p) 0 (rasterAt text p .repeats))
+walked cards text go p o Opens = go (p + sizeAt text p) (Open (placeAt p) 0 0)
 walked cards text go p o (Exposes r) = go (p + sizeAt text p) (oneMore o)
 walked cards text go p o (Loops t) = closed text p t o (go (p + sizeAt text p) Shut)
 walked cards text go p o Waits = paused text p o (go (p + sizeAt text p) o)

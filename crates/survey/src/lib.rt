@@ -149,7 +149,7 @@ fn one_more(held: Opened) -> Opened
 {
     match held {
         Opened::Shut => Opened::Shut,
-        Opened::Open(at, count, left) => Opened::Open(at, count + 1, left),
+        Opened::Open(at, count, run) => Opened::Open(at, count + 1, run),
     }
 }
 
@@ -227,10 +227,7 @@ fn walk(format: Format, text: &[u8], lists: &[u8]) -> Walked
         let held = round.held;
         round = match runner::judge(text, lists, at, held) {
             Act::Refused(code) => return Walked::Faulty(Fault { code, place }),
-            Act::Opens => {
-                let opened = Opened::Open(at, 0, sequence::repeats_at(text, at));
-                round.past(sequence::RUN_RASTER.size, opened, 0, 0)
-            }
+            Act::Opens => { round.past(sequence::RUN_RASTER.size, Opened::Open(at, 0, 0), 0, 0) }
             Act::Exposes(_) => round.past(sequence::EXPOSE.size, one_more(held), 0, 0),
             Act::Loops(t) => round.loops(format, text, t),
             Act::Waits => round.past(sequence::DELAY.size, held, pause(held), 0),

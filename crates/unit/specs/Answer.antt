@@ -4,7 +4,7 @@ use mathlib.Core.Bool.{true, cond}
 use mathlib.Core.List.{List, [], _++_}
 use lib.Dec.{leb, eqb}
 use lib.ListN.{length, drop}
-use Rattle.octets.specs.Bytes.{byteAt, tripleAt}
+use Rattle.octets.specs.Bytes.{byteAt, tripleAt, counted}
 use Rattle.memory.specs.declared.Format.{Format}
 use Rattle.memory.specs.Memory.{partOf, seqsWritten, listsWritten}
 use Rattle.telecommand.specs.declared.Telecommand.{Telecommand}
@@ -12,7 +12,7 @@ use Rattle.telecommand.specs.declared.Telecommand.the-variants.{Status, Dump, A
 use Rattle.telecommand.specs.Packet.{is, commandOf, dumpRange, writesTo}
 use Rattle.unit.specs.declared.Unit.{Unit}
 use Rattle.unit.specs.declared.Answer.{Answer}
-use Rattle.status.specs.State.{withAllowed, withRequests, withAbort, counted, arrived, failed, cleared}
+use Rattle.status.specs.State.{withAllowed, withRequests, withAbort, arrived, failed, cleared}
 use Rattle.unit.specs.State.{withLedger, withControl, withWatch, moded, selected}
 use Rattle.unit.specs.Packet.{codeOf}
 use Rattle.unit.specs.Status.{statusOf}

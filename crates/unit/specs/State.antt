@@ -3,6 +3,7 @@ use Prim.Native.Nat.{ℕ}
 use mathlib.Core.Bool.{Bool, true, false, cond, not, _&&_, _||_}
 use mathlib.Core.List.{List, [], _∷_}
 use lib.Dec.{ltb, leb, eqb}
+use lib.IntN.{pos}
 use Rattle.octets.specs.Rows.{some}
 use Rattle.memory.specs.declared.Format.{Format}
 use Rattle.runner.specs.declared.Runner.{Runner}
@@ -40,7 +41,7 @@ powerOn =
             place = 0;
             running = false;
             entering = false;
-            raster = record { place = 255; count = 0; passes = 0; repeats = 0 };
+            raster = record { place = 255; count = 0; passes = 0; repeats = 0; run = 0; shift = pos 0 };
             rounds = 0;
             mirror = 0;
           };

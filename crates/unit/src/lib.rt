@@ -5,10 +5,11 @@ ghost use mathlib.Core.Bool.{true};
 ghost use mathlib.Core.List.{_++_};
 ghost use lib.Dec.{leb};
 ghost use lib.ListN.{length, drop};
+ghost use Rattle.octets.specs.Bytes.{counted};
 ghost use Rattle.octets.specs.Rows.{firstCode, some};
 ghost use Rattle.memory.specs.Memory.{formatOf, windowCode, windowPart};
 ghost use Rattle.telecommand.specs.declared.Telecommand.the-variants.{Mode, Select, Uplink};
-ghost use Rattle.status.specs.State.{withAbort, withMode, withAllowed, withRequests, counted, cleared};
+ghost use Rattle.status.specs.State.{withAbort, withMode, withAllowed, withRequests, cleared};
 ghost use Rattle.unit.specs.State.{powerOn, beyond, runsWrong, rangeTests, outOfRange, withLedger, withWatch, withControl, started, stopped, moded, selected};
 ghost use Rattle.unit.specs.Packet.{ownRows, lentWrong, codeOf};
 ghost use Rattle.unit.specs.Answer.{withArrival, obeyedUnit, reply, refusedUnit, answerOf, seqsAfter, listsAfter, outAfter};
@@ -108,6 +109,8 @@ impl Unit {
                     count: 0,
                     passes: 0,
                     repeats: 0,
+                    run: 0,
+                    shift: 0,
                 },
                 rounds: 0,
                 mirror: 0,
@@ -216,7 +219,7 @@ impl Unit {
     {
         Unit {
             control: Control {
-                requests: status::counted(self.control.requests),
+                requests: octets::counted(self.control.requests),
                 ..self.control
             },
             ..self

@@ -43,7 +43,7 @@ use Rattle.promises.proofs.Chain.Unique.{chain-first}
 use Rattle.promises.proofs.Run.Shown.{shown}
 use Rattle.promises.proofs.Run.Seen.{seen-shown}
 use Rattle.promises.proofs.Chain.ChainShown.{chain-shown}
-use Rattle.promises.proofs.Chain.Plans.{blind-landmark, passed-planned}
+use Rattle.promises.proofs.Chain.Plans.{blind-landmark, passed-planned, passed-positioned}
 use Rattle.promises.proofs.Packets.Between.{saws}
 use Rattle.promises.proofs.Chain.Working.{isIdle, step-fate, AllBusy, run-busy, chain-busy}
 
@@ -161,6 +161,7 @@ module _ (F : Format) (lists : List ℕ) (fair : Fair F) (seqs : List ℕ) (n m 
       record {
         never = saws-well ws (quiet j);
         inReach = reach;
+        positioned = passed-positioned E seqs n h y;
         steps = works;
         planned = λ e.
             saws-each landmark ws

@@ -3,7 +3,7 @@
 use Prim.Native.Nat.{ℕ, zero, suc, _+_, _*_, _≤_, _<_}
 use native.Mathlib.Nat.{mul-comm}
 use native.Mathlib.Omega.{arith}
-use mathlib.Core.Path.{_≡_, refl, sym, ap, ap₂, _∙_}
+use mathlib.Core.Path.{_≡_, refl, sym, ap, ap₂, subst, _∙_}
 use mathlib.Core.Bool.{true, or-true}
 use mathlib.Core.List.{List, [], _∷_, _++_, append-assoc}
 use lib.Dec.{eqb}
@@ -11,7 +11,7 @@ use lib.ListN.{length, getD, replicate, length-replicate}
 use lib.Seq.{ext-getD}
 use Rattle.octets.specs.Bytes.{byteAt}
 use Rattle.sequence.specs.declared.RasterWords.{RasterWords}
-use Rattle.sequence.specs.Starts.{among}
+use Rattle.sequence.specs.Starts.{startsOf, rastersAmong, among}
 use Rattle.sequence.specs.Raster.{rasterAt, startOf}
 use Rattle.sequence.specs.Env.{Env, textOf}
 use Rattle.runner.specs.declared.Event.{Event}
@@ -23,10 +23,10 @@ use Rattle.survey.specs.Items.{positionAt, positions}
 use Rattle.survey.specs.Walk.{Finding, passes, faults, checkOne}
 use Rattle.promises.specs.Runs.{positionShown}
 use Rattle.promises.specs.Kept.{IsPassed}
-use Rattle.promises.specs.Demand3.{repeatPlan, rastersPlan, roundPlan, sequencePlan, chainPlan, fromEach, landmark, exposedPositions, RasterTakes}
+use Rattle.promises.specs.Demand3.{repeatPlan, rastersPlan, roundPlan, sequencePlan, chainPlan, EachPositioned, ChainPositioned, fromEach, landmark, exposedPositions, RasterTakes}
 use Rattle.promises.proofs.Run.Turns.{length-turns}
 use Rattle.promises.proofs.Run.Sights.{passStart}
-use Rattle.promises.proofs.Run.Counts.{position}
+use Rattle.promises.proofs.Run.Counts.{position, body-positioned}
 use Rattle.survey.proofs.Listing.{among-first}
 use Rattle.promises.proofs.Chain.Chains.{chainIn}
 use Rattle.promises.proofs.Chain.Never.{Fine, listed-fine}
@@ -101,15 +101,35 @@ module _ (E : Env) (seqs : List ℕ) where
   chain-planned [] y = refl
   chain-planned (n ∷ ns) (y, ys) = ap₂ (_++_) (finding-planned n (checkOne E (textOf E seqs n)) refl y) (chain-planned ns ys)
 
+  finding-positioned : (n : ℕ) (v : Finding) → checkOne E (textOf E seqs n) ≡ v → Passes v
+      → let text = textOf E seqs n in EachPositioned text (rastersAmong text (startsOf text))
+  finding-positioned n (passes k x items e closing) says y =
+      let text = textOf E seqs n in
+      let b = passed-read E text says .0 in
+      subst (EachPositioned text) (sym (rasters-of b)) (body-positioned b)
+  finding-positioned n (faults f reason) says y = absurd y
+
+  chain-positioned : (names : List ℕ) → AllPass E seqs names → ChainPositioned (E .format) seqs names
+  chain-positioned [] y = tt
+  chain-positioned (n ∷ ns) (y, ys) = (finding-positioned n (checkOne E (textOf E seqs n)) refl y, chain-positioned ns ys)
+
   fine-pass : (P : ℕ → Type 0) (names : List ℕ) → ((u : ℕ) → among u names ≡ true → Fine E seqs P u) → AllPass E seqs names
   unfolding among
   fine-pass P [] fine = tt
   fine-pass P (n ∷ ns) fine = (rw (fine n (among-first n ns) .says) tt, fine-pass P ns (λ u a. fine u (rw a (or-true (eqb n u)))))
 
-  pub passed-planned : (n : ℕ) → n ≤ E .format .last → IsPassed (chainIn E seqs n .ending) → chainShown landmark E seqs (chainIn E seqs n .names) ≡ chainPlan (E .format) seqs (chainIn E seqs n .names)
-  passed-planned n h y =
-      let names = chainIn E seqs n .names in
-      chain-planned names (fine-pass (λ v. among v names ≡ true) names (listed-fine E seqs n h y .0))
+  module _ (n : ℕ) (h : n ≤ E .format .last) (y : IsPassed (chainIn E seqs n .ending)) where
+    abbrev names : List ℕ
+    names = chainIn E seqs n .names
+
+    all-pass : AllPass E seqs names
+    all-pass = fine-pass (λ v. among v names ≡ true) names (listed-fine E seqs n h y .0)
+
+    pub passed-planned : chainShown landmark E seqs names ≡ chainPlan (E .format) seqs names
+    passed-planned = chain-planned names all-pass
+
+    pub passed-positioned : ChainPositioned (E .format) seqs names
+    passed-positioned = chain-positioned names all-pass
 
 -- ── how many exposures a raster takes
 pub each-append : {A : Type 0} (f : Event → List A) (xs ys : List Event) → fromEach f (xs ++ ys) ≡ fromEach f xs ++ fromEach f ys

@@ -132,6 +132,8 @@ effect-21 F s o =
             count = refl;
             passes = refl;
             repeats = refl;
+            run = refl;
+            shift = refl;
             rounds = refl;
           }),
       λ n r. subst (Stopped u) (sym (l .unit ∙ stop-is p u n r)) (record { runner = refl; abort = refl; exposures = refl; list = refl }),

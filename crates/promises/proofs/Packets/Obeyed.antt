@@ -8,7 +8,7 @@ use mathlib.Core.List.{List}
 use mathlib.Core.Logic.{inl, inr}
 use lib.Dec.{leb, eqb}
 use borrow.Author.Tests.{ltb-false, leb-true, leb-false, eqb-true, not-false}
-use Rattle.octets.specs.Bytes.{byteAt}
+use Rattle.octets.specs.Bytes.{byteAt, counted}
 use Rattle.octets.specs.Rows.{NoneHolds}
 use Rattle.octets.proofs.Bools.{and-both, choice}
 use Rattle.memory.specs.declared.Format.{Format}
@@ -16,7 +16,7 @@ use Rattle.unit.specs.declared.Unit.{Unit as ControlUnit}
 use Rattle.status.specs.declared.Ledger.{Ledger}
 use Rattle.telecommand.specs.declared.Telecommand.{Telecommand}
 use Rattle.telecommand.specs.declared.Telecommand.the-variants.{Status, Dump, Allow, Mode, Clear, Select, Uplink, Foreign, Unheard}
-use Rattle.status.specs.State.{withMode, withAllowed, withRequests, withAbort, counted, arrived, failed, cleared}
+use Rattle.status.specs.State.{withMode, withAllowed, withRequests, withAbort, arrived, failed, cleared}
 use Rattle.unit.specs.State.{withLedger, withControl, withWatch, isNone, started, stopped, moded, selected}
 use Rattle.telecommand.specs.Packet.{commandOf, fromTo, sizeGood, pairAllowed}
 use Rattle.unit.specs.Packet.{ownRows, codeOf}

@@ -17,7 +17,8 @@ use Rattle.sequence.specs.declared.Header.{Header}
 use Rattle.sequence.specs.declared.Command.{Command}
 use Rattle.sequence.specs.declared.Command.the-variants.{RunRaster, Expose, LoopBack, Delay}
 use Rattle.sequence.specs.Text.{fault, commandAt, sizeOf, numberOf}
-use Rattle.sequence.specs.Raster.{rasterAt}
+use Rattle.sequence.specs.Raster.{rasterAt, startOf, strays}
+use Rattle.sequence.proofs.Paths.{start-reaches}
 use Rattle.sequence.specs.Env.{Env, textOf}
 use Rattle.runner.specs.declared.Runner.{Runner}
 use Rattle.runner.specs.declared.Stepped.{Stepped}
@@ -69,10 +70,13 @@ module _ (E : Env) (room : 4 < E .format .size) (seqs : List ℕ) (s : Runner) (
   next-place : (k : Command) → commandAt text (s .place) ≡ k → 0 < sizeOf (numberOf k) → past text s < E .format .size
   next-place k e h = place-inside E seqs (s .sequence) (s .place) (size-some E text (s .place) k e h) .1
 
-  begun-range : commandAt text (s .place) ≡ RunRaster → Sound (rasterAt text (s .place)) → StepInRange (E .format) (begun (E .format) text s)
+  begun-range : commandAt text (s .place) ≡ RunRaster → Sound (rasterAt text (s .place)) → strays (rasterAt text (s .place)) (repeatBegun (openOf (E .format) s)) ≡ false
+      → StepInRange (E .format) (begun (E .format) text s)
   unfolding begun sizeOf
-  begun-range k g =
-      let m = g .starts (repeatBegun (rasterAt text (s .place)) (openOf (E .format) s)) in (
+  begun-range k g z =
+      let raster = rasterAt text (s .place) in
+      let begins = repeatBegun (openOf (E .format) s) in
+      let m : startOf raster begins ≤ 2400 = omega (arith, start-reaches raster begins z) in (
         record { sequence = ok .sequence; place = next-place RunRaster k (omega arith); raster = inl (ok .place); count = omega arith; mirror = m; known = ok .known },
         (m, g .list),
       )
@@ -127,8 +131,8 @@ module _ (E : Env) (room : 4 < E .format .size) (seqs : List ℕ) (s : Runner) (
   act-range : (o : Opened) (a : Act) → openOf (E .format) s ≡ o → View E text (s .place) o a → StepInRange (E .format) (act (E .format) text s a)
   unfolding act delayed sizeOf
   act-range o a e (refused {code} b) = abort-range (fault code (s .place)) b (ok .place)
-  act-range o a e (opens k g) = begun-range k g
-  act-range o a e (opens-again k g h) = begun-range k g
+  act-range o a e (opens k g) = begun-range k g (rw e (g .stays 0 (g .repeats)))
+  act-range o a e (opens-again k g z h) = begun-range k g (rw e z)
   act-range o a e (exposes {r} {c} {t} k h) =
       let (i, w) = open-held (E .format) s e in
       exposed-range r t k (subst (λ (x : ℕ). x < setOf (rasterAt text (r .0))) w h)

@@ -1,15 +1,18 @@
 -- How many steps and exposures are to be seen, and where the exposures stand.
 -- Assumes nothing.
 use Prim.Native.Nat.{ℕ, zero, suc, _+_, _*_, _-_, _/_, _%_, _≤_, _<_}
-use native.Mathlib.Nat.{mul-comm, mod-lt}
+use native.Mathlib.Nat.{mul-comm, mod-lt, le-div-iff-mul-le}
 use native.Mathlib.Omega.{arith}
 use mathlib.Core.Path.{_≡_, refl, ap, _∙_}
 use mathlib.Core.Bool.{Bool}
 use mathlib.Core.List.{List, [], _∷_}
 use lib.Dec.{ltb}
+use lib.IntN.{ℤ, pos, _+ℤ_}
 use lib.ListN.{length, getD, replicate, length-append, length-replicate, getD-replicate}
 use Rattle.octets.specs.Rows.{firstCode}
+use borrow.Author.Tests.{ltb-true, ltb-false}
 use Rattle.octets.proofs.Laws.{none-holds}
+use Rattle.octets.proofs.Bools.{by-test}
 use Rattle.sequence.specs.declared.RasterWords.{RasterWords}
 use Rattle.sequence.specs.Text.{sizeAt}
 use Rattle.sequence.specs.Raster.{rasterAt, startOf}
@@ -20,12 +23,15 @@ use Rattle.survey.specs.declared.Item.the-variants.{Pause, Scan}
 use Rattle.survey.specs.declared.Closing.{Closing}
 use Rattle.survey.specs.Turns.{turns}
 use Rattle.survey.specs.Items.{itemSteps, itemExposures, stepsOf, exposuresOf, positionAt, positions, itemPositions, positionsOf}
+use Rattle.sequence.proofs.Paths.{start-whole, start-reaches}
 use Rattle.promises.specs.Positions.{NonePast}
+use Rattle.promises.specs.Demand3.{Positioned, EachPositioned}
 use Rattle.promises.proofs.Run.Turns.{some-in, length-turns, nth-turns, past-append, past-replicate, past-turns}
 use Rattle.promises.proofs.Text.Sound.{Sound, sound}
 use Rattle.promises.proofs.Text.Rules.{opens-sound}
 use Rattle.promises.proofs.Run.Sights.{counted, lineSights, backSight, passStart, passSights, repeatSights, itemSights, itemEnd, endOf, bodySights, closeSight, roundStart, roundSights, sequenceSights}
-use Rattle.promises.proofs.Text.Lines.{closed, Body, closes, pauses, scans}
+use Rattle.promises.proofs.Text.Lines.{End, closed, Body, closes, wrong, torn, pauses, scans}
+use Rattle.promises.proofs.Text.TextOrder.{scansOf}
 
 -- ── steps
 module _ (text : List ℕ) (n : ℕ) where
@@ -90,7 +96,7 @@ pub length-rounds-positions : (text : List ℕ) (items : List Item) (q : ℕ) �
 length-rounds-positions text items q = length-turns (exposuresOf text items) (λ r l. positionsOf text items) (λ r l. length-positions-of text items) 0 q
 
 -- ── where they stand
--- "Exposure k of one raster repeat, from 0, is at initial + step x (k / exposures, whole part)."
+-- "Exposure k of one raster repeat, from 0, is at initial + step x (k / exposures, whole part)", from where the repeat begins.
 pub position : (raster : RasterWords) (turn k : ℕ) → k < raster .loops * raster .exposures → getD (positions raster turn) k 0 ≡ positionAt raster turn k
 position raster turn k h =
     let e : 0 + k / raster .exposures ≡ k / raster .exposures = omega arith in
@@ -108,8 +114,31 @@ pass-in-reach i s j l L e h =
 positions-in-reach : {raster : RasterWords} → Sound raster → (k : ℕ) → k < raster .repeats → NonePast 2400 (positions raster k)
 positions-in-reach {raster} g k h =
     past-turns 2400 (λ j l. replicate (raster .exposures) (passStart raster k j)) (raster .loops)
-    (λ j l e. past-replicate 2400 (raster .exposures) (passStart raster k j) (pass-in-reach (startOf raster k) (raster .step) j l (raster .loops) e (g .reaches k h)))
+    (λ j l e. past-replicate 2400 (raster .exposures) (passStart raster k j) (pass-in-reach (startOf raster k) (raster .step) j l (raster .loops) e (start-reaches raster k (g .stays k h))))
     0 (raster .loops) (omega arith)
+
+-- an exposure is in one of the passes
+pass-of : (loops e k : ℕ) → k < loops * e → k / e < loops
+pass-of loops e k h =
+    by-test (ltb (k / e) loops) (ltb-true (k / e) loops)
+    (λ t. let l = le-div-iff-mul-le {k = e} {x = loops} {y = k} (some-in loops e k h) .0 (ltb-false (k / e) loops t) in absurd (omega arith))
+
+-- exposure k of a turn is where the signed formula has it
+pub positioned : {raster : RasterWords} → Sound raster → Positioned raster
+positioned {raster} g turn k h l =
+    let stays = g .stays turn h in
+    let j = k / raster .exposures in
+    let q = pass-of (raster .loops) (raster .exposures) k l in (
+      ap (λ (z : ℤ). z +ℤ pos (raster .step * j)) (start-whole raster turn stays),
+      pass-in-reach (startOf raster turn) (raster .step) j (raster .loops - suc j) (raster .loops) (omega arith) (start-reaches raster turn stays),
+    )
+
+pub body-positioned : {E : Env} {text : List ℕ} {p : ℕ} {items : List Item} {end : End} → Body E text p items end → EachPositioned text (scansOf items)
+body-positioned (closes closing j) = tt
+body-positioned (wrong j) = tt
+body-positioned (torn j l r) = tt
+body-positioned (pauses j b) = body-positioned b
+body-positioned {E} {text} (scans {p} R b) = (positioned (opens-sound E text p (R .run)), body-positioned b)
 
 -- no position of a raster that no row refuses is past the end stop
 pub none-past-stop : (E : Env) (raster : RasterWords) (begun : ℕ) → firstCode (rasterRows (E .cards) raster begun) ≡ 0 → (k : ℕ) → k < raster .repeats → NonePast 2400 (positions raster k)

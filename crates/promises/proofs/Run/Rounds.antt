@@ -9,7 +9,7 @@ use mathlib.Core.Logic.{_⊎_, inl, inr, ⊎-elim}
 use lib.Dec.{ltb}
 use Rattle.memory.proofs.Laws.{Fair}
 use Rattle.sequence.specs.Text.{fault, sizeAt}
-use Rattle.sequence.specs.Raster.{rasterAt, startOf}
+use Rattle.sequence.specs.Raster.{rasterAt, shiftOf, startOf}
 use Rattle.sequence.specs.Env.{Env, textOf}
 use Rattle.runner.specs.declared.OpenRaster.{OpenRaster}
 use Rattle.runner.specs.declared.Runner.{Runner}
@@ -24,13 +24,13 @@ use Rattle.survey.specs.declared.Closing.{Closing}
 use Rattle.survey.specs.declared.Closing.the-variants.{Terminates, CallsOn}
 use Rattle.survey.specs.Turns.{turns}
 use Rattle.promises.specs.Runs.{sight, Run, done, more, Aborts, AtDoor}
-use Rattle.promises.proofs.Run.Steps.{openRaster, on, out, door, held-at, step-refused, step-waits, step-opens, step-round, step-round-call, step-ends, step-calls, step-miscalls}
+use Rattle.promises.proofs.Run.Steps.{turn, turnOf, on, out, door, held-at, step-refused, step-waits, step-opens, step-round, step-round-call, step-ends, step-calls, step-miscalls}
 use Rattle.promises.proofs.Run.Runs.{one, _▸_}
 use Rattle.promises.proofs.Text.Rules.{opens-sound, opens-place}
 use Rattle.promises.proofs.Run.Sights.{mirrorIn, lineSights, itemEnd, endOf, bodySights, closeSight, roundStart, roundSights}
 use Rattle.promises.proofs.Text.Lines.{End, closed, faulty, closingAct, Body, closes, wrong, torn, pauses, scans}
 use Rattle.promises.proofs.Text.Walks.{Known}
-use Rattle.promises.proofs.Run.Rasters.{first-line, raster-run}
+use Rattle.promises.proofs.Run.Rasters.{lastOpen, first-line, raster-run}
 
 -- no raster is open, the runner at place p of sequence n with q rounds left and the mirror at m
 pub record Clear (n p q m : ℕ) (s : Runner) : Type 0 where
@@ -70,23 +70,24 @@ module _ (E : Env) (fair : Fair (E .format)) (seqs : List ℕ) (n : ℕ) where
       → (tail : List Sight) × (s : Runner) × Run E seqs (out n p d m q) (bodySights text n items m ++ tail) s × AtEnd E seqs n end q (endOf text items m) tail s
   unfolding AtEnd
   body-run (closes {p} closing j) d m q = ([], out n p d m q, done, (refl, record { held = d; is = refl }))
-  body-run (wrong {p} j) d m q = ([], out n p d m q, done, step-refused E seqs n p 255 (d .count) (d .passes) (d .repeats) m q refl j)
+  body-run (wrong {p} j) d m q = ([], out n p d m q, done, step-refused E seqs n p 255 (d .count) (d .passes) (turnOf d) m q refl j)
   body-run (torn {p} {len} {q = e} {c} j l f) d m q =
       let g = opens-sound E text p j in
       let i = opens-place E seqs n p fair j in
-      let raster = rasterAt text p in (
+      let raster = rasterAt text p in
+      let first = turn (raster .repeats) 0 (shiftOf raster 0) in (
         sight (Raster (raster .id) (startOf raster 0) (raster .list)) n (p + sizeAt text p) (startOf raster 0)
             ∷ lineSights text n raster (ltb 1 (raster .loops)) (startOf raster 0) len (p + sizeAt text p) 0,
-        on n e p c (raster .loops) (raster .repeats) (mirrorIn raster (ltb 1 (raster .loops)) (startOf raster 0) c) q,
-        more (step-opens E seqs n p d m q j) refl (first-line E seqs n p i g l 0 (raster .repeats) q (g .repeats)),
-        step-refused E seqs n e p c (raster .loops) (raster .repeats) (mirrorIn raster (ltb 1 (raster .loops)) (startOf raster 0) c) q (held-at (E .format) p c (raster .loops) (raster .repeats) i) (f (raster .repeats)),
+        on n e p c (raster .loops) first (mirrorIn raster (ltb 1 (raster .loops)) (startOf raster 0) c) q,
+        more (step-opens E seqs n p d m q j) refl (first-line E seqs n p i g l 0 first q (g .repeats)),
+        step-refused E seqs n e p c (raster .loops) first (mirrorIn raster (ltb 1 (raster .loops)) (startOf raster 0) c) q (held-at (E .format) p c (raster .loops) first i) (f 0),
       )
   body-run (pauses {p} j b) d m q =
       let (tail, s, r, a) = body-run b d m q in
-      (tail, s, more (step-waits E seqs n p 255 (d .count) (d .passes) (d .repeats) m q refl j) refl r, a)
+      (tail, s, more (step-waits E seqs n p 255 (d .count) (d .passes) (turnOf d) m q refl j) refl r, a)
   body-run (scans {p} {t} {b = e} {before} {from} R b) d m q =
       let item = Scan p t e before from in
-      let (tail, s, r, a) = body-run b (openRaster p (setOf (rasterAt text p)) 1 1) (itemEnd text item m) q in
+      let (tail, s, r, a) = body-run b (lastOpen text p) (itemEnd text item m) q in
       (tail, s, rw append-assoc (raster-run E seqs n fair R d m q ▸ r), a)
 
   -- ── the rounds of a text that comes to its closing command at e

@@ -95,10 +95,10 @@ module _ (E : Env) (text : List ℕ) where
     one-command p o a h j (refused {code} b) = (o, there, own-bears E text p o code (commandAt text p) (tells E text p o a j))
     one-command p o a h j (opens k g) =
         let z = size-some E text p RunRaster k (omega arith) in
-        step-on p o RunRaster k refl (tells E text p o a j) (walked (E .cards) text go p o a) (ih (p + sizeAt text p) (Open (placeAt p) 0 (rasterAt text p .repeats)) (omega arith))
-    one-command p o a h j (opens-again k g e) =
+        step-on p o RunRaster k refl (tells E text p o a j) (walked (E .cards) text go p o a) (ih (p + sizeAt text p) (Open (placeAt p) 0 0) (omega arith))
+    one-command p o a h j (opens-again k g i e) =
         let z = size-some E text p RunRaster k (omega arith) in
-        step-on p o RunRaster k refl (tells E text p o a j) (walked (E .cards) text go p o a) (ih (p + sizeAt text p) (Open (placeAt p) 0 (rasterAt text p .repeats)) (omega arith))
+        step-on p o RunRaster k refl (tells E text p o a j) (walked (E .cards) text go p o a) (ih (p + sizeAt text p) (Open (placeAt p) 0 0) (omega arith))
     one-command p o a h j (exposes {r} {c} {t} k l) =
         let z = size-some E text p (Expose t) k (omega arith) in
         step-on p o (Expose t) k refl (tells E text p o a j) (walked (E .cards) text go p o a) (ih (p + sizeAt text p) (oneMore o) (omega arith))

@@ -17,9 +17,9 @@ use Rattle.survey.specs.declared.Item.the-variants.{Pause, Scan}
 use Rattle.survey.specs.declared.Closing.{Closing}
 use Rattle.survey.specs.declared.Closing.the-variants.{Terminates, CallsOn}
 
--- the command at p comes to this act with the raster at r open and c exposures in the set, whatever repeats are left
+-- the command at p comes to this act with the raster at r open and c exposures in the set, whatever repeat it is in
 abbrev pub InRaster : Env → List ℕ → ℕ → ℕ → ℕ → Act → Type 0
-InRaster E text r p c act = (left : ℕ) → judge (E .cards) text p (Open (placeAt r) c left) ≡ act
+InRaster E text r p c act = (run : ℕ) → judge (E .cards) text p (Open (placeAt r) c run) ≡ act
 
 -- so many delays and exposures in the raster at r: from place p with c exposures in the set to place p′ with c′
 pub data Line (E : Env) (text : List ℕ) (r : ℕ) : ℕ → ℕ → ℕ → ℕ → ℕ → Type 0 where

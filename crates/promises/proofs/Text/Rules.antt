@@ -22,7 +22,7 @@ use Rattle.sequence.specs.declared.Header.{Header}
 use Rattle.sequence.specs.declared.Header.the-variants.{Repeats, Bad}
 use Rattle.sequence.specs.Text.{fault, commandAt, sizeAt, sizeOf, numberOf, headerRows, headerPlace, headerBy, headerOf}
 use Rattle.sequence.specs.Starts.{targetGood}
-use Rattle.sequence.specs.Raster.{rasterAt}
+use Rattle.sequence.specs.Raster.{rasterAt, strays}
 use Rattle.sequence.specs.Env.{Env, textOf}
 use Rattle.sequence.proofs.Laws.{command-bytes, Bytes, none-past, size-inside}
 use Rattle.runner.specs.declared.Opened.{Opened}
@@ -30,14 +30,15 @@ use Rattle.runner.specs.declared.Opened.the-variants.{Shut, Open}
 use Rattle.runner.specs.declared.Act.{Act}
 use Rattle.runner.specs.declared.Act.the-variants.{Refused, Opens, Exposes, Loops, Waits, Calls, Ends}
 use Rattle.runner.specs.Judge.{repeatBegun, setOf, full, pathRows, rasterRows, runRows, exposeRows, loopRows, closeRows, unless, judged, judge}
-use Rattle.promises.proofs.Text.Sound.{code-small, by-first, by-rows, Sound, sound}
+use Rattle.runner.proofs.Exactly.{run-raster-exactly}
+use Rattle.promises.proofs.Text.Sound.{code-small, by-first, by-rows, Sound, sound, stay, rows-again}
 
 -- ── the view
 -- the judgement of the command at p where the raster o is open, with what is known where it is this one
 pub data View (E : Env) (text : List ℕ) (p : ℕ) : Opened → Act → Type 0 where
   refused : {o : Opened} {code : ℕ} → code ≤ 15 → View E text p o (Refused code)
   opens : commandAt text p ≡ RunRaster → Sound (rasterAt text p) → View E text p Shut Opens
-  opens-again : {r : Place} {c n : ℕ} → commandAt text p ≡ RunRaster → Sound (rasterAt text p) → r .0 ≡ p → View E text p (Open r c n) Opens
+  opens-again : {r : Place} {c n : ℕ} → commandAt text p ≡ RunRaster → Sound (rasterAt text p) → strays (rasterAt text p) n ≡ false → r .0 ≡ p → View E text p (Open r c n) Opens
   exposes : {r : Place} {c n t : ℕ} → commandAt text p ≡ Expose t → c < setOf (rasterAt text (r .0)) → View E text p (Open r c n) (Exposes r)
   loops : {r : Place} {c n t : ℕ} → commandAt text p ≡ LoopBack t → setOf (rasterAt text (r .0)) ≤ c → targetGood text (r .0) p t ≡ true → View E text p (Open r c n) (Loops t)
   waits : {o : Opened} {t : ℕ} → commandAt text p ≡ Delay t → View E text p o Waits
@@ -56,7 +57,7 @@ module _ (E : Env) (text : List ℕ) (p : ℕ) where
   view-run Shut k = by-rows (Seen Shut) (runRows (E .cards) text p Shut) Opens tt refl (λ c. refused) (λ h. opens k (sound E (rasterAt text p) 0 (h .1)))
   view-run (Open r c n) k =
       by-rows (Seen (Open r c n)) (runRows (E .cards) text p (Open r c n)) Opens tt refl (λ c. refused)
-      (λ h. opens-again k (sound E (rasterAt text p) (repeatBegun (rasterAt text p) (Open r c n)) (h .1)) (eqb-true (r .0) p (not-false (eqb (r .0) p) (h .0))))
+      (λ h. opens-again k (sound E (rasterAt text p) n (h .1)) (stay E (rasterAt text p) n (h .1) .1) (eqb-true (r .0) p (not-false (eqb (r .0) p) (h .0))))
 
   view-expose : (o : Opened) (t : ℕ) → commandAt text p ≡ Expose t → View E text p o (judged (E .cards) text p o (Expose t))
   unfolding judged exposeRows
@@ -112,14 +113,15 @@ module _ (E : Env) (text : List ℕ) (p : ℕ) where
   opens-sound j = opens-there (view-of Shut Opens j) .1
 
   -- at a repeat's jump back the raster opens again
-  pub opens-repeat : (c n : ℕ) → judge (E .cards) text p Shut ≡ Opens → judge (E .cards) text p (Open (placeAt p) c n) ≡ Opens
-  unfolding judge judged runRows rasterRows pathRows
-  opens-repeat c n j =
+  pub opens-repeat : (c n : ℕ) → n < rasterAt text p .repeats → judge (E .cards) text p Shut ≡ Opens → judge (E .cards) text p (Open (placeAt p) c n) ≡ Opens
+  unfolding judge runRows
+  opens-repeat c n l j =
       let k = opens-command j in
-      rw (k, eq-eqb p p refl) (rw k at j)
+      let h = run-raster-exactly (E .cards) text p Shut .obeyed .0 (rw k at j) in
+      rw k (run-raster-exactly (E .cards) text p (Open (placeAt p) c n) .obeyed .1 (rw (eq-eqb p p refl), rows-again E (rasterAt text p) 0 (h .1) n l))
 
   -- ── in an open raster
-  -- past its run raster a judgement does not look at the repeats left
+  -- past its run raster a judgement does not look at the run number
   pub any-left : (r : Place) (c n m : ℕ) (a : Act) → r .0 < p → judge (E .cards) text p (Open r c n) ≡ a → judge (E .cards) text p (Open r c m) ≡ a
   unfolding judge judged runRows exposeRows loopRows closeRows
   any-left r c n m a l j = go (commandAt text p) ∙ j

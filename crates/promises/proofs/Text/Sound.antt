@@ -2,19 +2,21 @@
 -- Assumes nothing.
 use Prim.Native.Nat.{ℕ, _≤_, _<_}
 use native.Mathlib.Omega.{arith}
-use mathlib.Core.Path.{_≡_, refl}
-use mathlib.Core.Bool.{Bool, true, false, cond, _&&_}
+use mathlib.Core.Path.{_≡_, refl, sym, ap₂, subst, _∙_}
+use mathlib.Core.Bool.{Bool, true, false, cond, _&&_, _||_}
 use mathlib.Core.List.{List, [], _∷_, _++_}
-use lib.Dec.{T, leb, eqb}
+use lib.Dec.{T, ltb, leb, eqb}
 use borrow.Author.Tests.{ltb-false, leb-true, eqb-true, eqb-false, le-leb}
-use Rattle.octets.specs.Rows.{Row, firstCode, NoneHolds, coded}
+use Rattle.octets.specs.Rows.{Row, row, firstCode, NoneHolds, coded}
 use Rattle.octets.proofs.Laws.{none-holds, none-split}
-use Rattle.octets.proofs.Bools.{and-both, or-neither}
+use Rattle.octets.proofs.Bools.{and-both}
 use Rattle.sequence.specs.declared.RasterWords.{RasterWords}
-use Rattle.sequence.specs.Raster.{startOf, reachOf, somePast}
+use Rattle.sequence.specs.Raster.{asrcWrong, strays, someStrays, leaves}
+use Rattle.sequence.proofs.Paths.{none-strays}
 use Rattle.sequence.specs.Env.{Env}
 use Rattle.runner.specs.declared.Act.{Act}
 use Rattle.runner.specs.declared.Act.the-variants.{Refused}
+use Rattle.runner.proofs.Laws.{none-stray, path-rows}
 use Rattle.runner.specs.Judge.{setOf, countRows, listRows, pathRows, flagRows, rasterRows, unless}
 
 -- ── codes
@@ -53,24 +55,37 @@ pub record Sound (raster : RasterWords) : Type 0 where
   pub some : 0 < raster .exposures
   pub most : raster .exposures ≤ 8
   pub list : raster .list ≤ 47
-  pub starts : (k : ℕ) → startOf raster k ≤ 2400
-  pub reaches : (k : ℕ) → k < raster .repeats → reachOf raster k ≤ 2400
+  pub stays : (k : ℕ) → k < raster .repeats → strays raster k ≡ false
 
-pub sound : (E : Env) (raster : RasterWords) (begun : ℕ) → NoneHolds (rasterRows (E .cards) raster begun) → Sound raster
-unfolding rasterRows pathRows
-sound E raster begun h =
-    let (counts, rest) = none-split (countRows raster) (listRows (E .cards) raster ++ (pathRows raster begun ++ flagRows (E .cards) raster)) h in
-    let (list, more) = none-split (listRows (E .cards) raster) (pathRows raster begun ++ flagRows (E .cards) raster) rest in
-    let path = none-split (pathRows raster begun) (flagRows (E .cards) raster) more .0 in
-    record {
-      loops = omega (arith, eqb-false (raster .loops) 0 (counts .0));
-      repeats = omega (arith, eqb-false (raster .repeats) 0 (counts .1 .0));
-      some = omega (arith, eqb-false (raster .exposures) 0 (counts .1 .1 .0));
-      most = ltb-false 8 (raster .exposures) (counts .1 .1 .1 .0);
-      list = ltb-false 47 (raster .list) (list .0);
-      starts = λ k. ltb-false 2400 (raster .initial) (path .0);
-      reaches = λ k l. ltb-false 2400 (reachOf raster begun) (or-neither (somePast raster (raster .repeats)) _ (path .1 .1 .0) .1);
-    }
+module _ (E : Env) (raster : RasterWords) (begun : ℕ) (none : NoneHolds (rasterRows (E .cards) raster begun)) where
+  path : NoneHolds (pathRows raster begun)
+  path = path-rows (E .cards) raster begun none
+
+  pub stay : (someStrays raster (raster .repeats) ≡ false) × (strays raster begun ≡ false)
+  stay = none-stray raster begun path
+
+  -- nor would a row refuse any other repeat of it
+  pub rows-again : (k : ℕ) → k < raster .repeats → NoneHolds (rasterRows (E .cards) raster k)
+  unfolding rasterRows pathRows
+  rows-again k l =
+      let again : leaves raster begun ≡ leaves raster k = path .1 .1 .1 .0 ∙ sym (ap₂ (λ (a b : Bool). a || b) (stay .0) (none-strays raster (raster .repeats) k (stay .0) l)) in
+      subst
+      (λ (b : Bool). NoneHolds (countRows raster ++ (listRows (E .cards) raster
+      ++ ((row 3 (asrcWrong raster) ∷ row 14 (ltb 2400 (raster .initial)) ∷ row 14 (ltb 2400 (raster .step)) ∷ row 14 b ∷ []) ++ flagRows (E .cards) raster))))
+      again none
+
+  pub sound : Sound raster
+  unfolding rasterRows pathRows
+  sound =
+      let (counts, rest) = none-split (countRows raster) (listRows (E .cards) raster ++ (pathRows raster begun ++ flagRows (E .cards) raster)) none in
+      record {
+        loops = omega (arith, eqb-false (raster .loops) 0 (counts .0));
+        repeats = omega (arith, eqb-false (raster .repeats) 0 (counts .1 .0));
+        some = omega (arith, eqb-false (raster .exposures) 0 (counts .1 .1 .0));
+        most = ltb-false 8 (raster .exposures) (counts .1 .1 .1 .0);
+        list = ltb-false 47 (raster .list) (rest .0);
+        stays = λ k l. none-strays raster (raster .repeats) k (stay .0) l;
+      }
 
 pub set-most : (raster : RasterWords) → setOf raster ≤ 8
 set-most raster = go (leb (raster .exposures) 8) refl

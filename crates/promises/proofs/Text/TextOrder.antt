@@ -73,7 +73,7 @@ module _ (E : Env) (text : List ℕ) (p : ℕ) where
   unfolding sizeOf
   inner o a x (refused b) = absurd x
   inner o a x (opens k g) = absurd x
-  inner o a x (opens-again k g e) = absurd x
+  inner o a x (opens-again k g z e) = absurd x
   inner o a x (exposes {t} k h) = stands (Expose t) k (omega arith) refl refl
   inner o a x (loops k h g) = absurd x
   inner o a x (waits {t} k) = stands (Delay t) k (omega arith) refl refl

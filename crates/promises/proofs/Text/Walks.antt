@@ -102,8 +102,8 @@ module _ (E : Env) (text : List ℕ) (f : ℕ) (go : ℕ → Opened → Finding)
   found-next r p o len a (within {left} s k l) h j (refused b) = ([], torn k l (inside E text left k l j))
   found-next r p o len a (outside s) h j (opens m g) =
       let y = opens-size E text p j in
-      ih p (p + sizeAt text p) (Open (placeAt p) 0 (rasterAt text p .repeats)) 0 (within s j stop) (omega arith)
-  found-next r p o len a (within s k l) h j (opens-again m g e) = (let w = hops-le (line-hops l) in let y = opens-size E text r k in absurd (omega arith))
+      ih p (p + sizeAt text p) (Open (placeAt p) 0 0) 0 (within s j stop) (omega arith)
+  found-next r p o len a (within s k l) h j (opens-again m g i e) = (let w = hops-le (line-hops l) in let y = opens-size E text r k in absurd (omega arith))
   found-next r p o len a (within {c} {left} s k l) h j (exposes m z) =
       let y = exposes-size E text p o (placeAt r) j in
       ih r (p + sizeAt text p) (Open (placeAt r) (c + 1) left) (suc len) (within s k (line-expose l (inside E text left k l j) z)) (omega arith)

@@ -1,6 +1,5 @@
 -- The code's rows are the definition's rows.
 use Rattle.runner.specs.Judge.{runRows}
-use mathlib.Core.Path.{refl}
 use borrow.Author.Needs.{needs}
 use Rattle.runner.proofs.run_fault.Statement.{statement}
 use Rattle.runner.proofs.run_fault.Tie as tie
@@ -9,7 +8,7 @@ returns : tie.Need-returns
 unfolding runRows
 returns c =
     let b = c .before .before .before in
-    simp (c .refuse .ensures, c .before .raster-fault .ensures, c .before .before .elsewhere .ensures, b .repeat-begun .ensures (b .before .raster-at .result) refl, b .before .raster-at .ensures)
+    simp (c .refuse .ensures, c .before .raster-fault .ensures, c .before .before .elsewhere .ensures, b .repeat-begun .ensures, b .before .raster-at .ensures)
 
 pub run-fault-spec : {M : Type 1} → statement M
 run-fault-spec =

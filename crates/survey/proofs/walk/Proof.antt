@@ -50,7 +50,7 @@ returns-2 : tie.Need-returns-2 Inv-loop μ-loop
 returns-2 c = comes-whole (turn (c .before .before .before)) (Refused _) (c .before .code .given .1)
 
 past-requires : tie.Need-past-requires Inv-loop μ-loop
-past-requires c κs = let t = turn (c .before .before .before) in let s = told t Opens (c .before .enum-told2 .given .1) in going-fits t _ 0 0 (omega arith) (omega arith) (omega arith)
+past-requires c κs = let t = turn (c .before .before) in let s = told t Opens (c .enum-told2 .given .1) in going-fits t _ 0 0 (omega arith) (omega arith) (omega arith)
 
 one-more-requires : tie.Need-one-more-requires Inv-loop μ-loop
 one-more-requires c κs = let t = turn (c .before .before) in let h = t .here in let w = t .going .within in omega (arith, t .fair .size)
@@ -83,7 +83,7 @@ loop-less c = omega arith
 
 loop-again : tie.Need-loop-again Inv-loop μ-loop
 loop-again c = let t = turn (c .before) in
-    ⊎-elim (λ w. going-on t Opens (w .1 .given .1) _ (w .4 ∙ (rw (w .2 .ensures) at (w .3 .ensures))) refl)
+    ⊎-elim (λ w. going-on t Opens (w .1 .given .1) _ (w .3 ∙ w .2 .ensures) refl)
     (⊎-elim (λ w. going-on t (Exposes _) (w .1 .given .1) _ (w .4 ∙ (rw (w .2 .ensures) at (w .3 .ensures))) refl)
     (⊎-elim (λ w. going-on t (Loops _) (w .1 .given .1) _ (w .4 ∙ w .3 .ensures) refl)
     (λ w. going-on t Waits (w .1 .given .1) _ (w .4 ∙ (rw (w .2 .ensures) at (w .3 .ensures))) refl))) (c .match2 .came)
@@ -106,7 +106,6 @@ walk-spec =
     (λ c. search needs)
     returns-2
     (λ c. search needs)
-    (λ c κs. search needs)
     past-requires
     (λ c. search needs)
     one-more-requires

@@ -1,9 +1,12 @@
 -- Refused by a row; else begun, from the fields that were read.
+use mathlib.Core.Path.{sym, _∙_}
+use mathlib.Core.Logic.{⊎-elim}
+use mir.Facts.{toZ-ofZ}
 use borrow.Author.Tests.{ne-eqb}
 use Rattle.sequence.specs.Text.{sizeOf}
-use Rattle.sequence.specs.Raster.{rasterAt}
-use Rattle.runner.specs.Step.{act}
-use Rattle.runner.proofs.Laws.{begins}
+use Rattle.sequence.specs.Env.{cardsOf}
+use Rattle.runner.specs.Step.{openOf, act}
+use Rattle.runner.proofs.Laws.{begins, path-passed}
 use borrow.Author.Needs.{needs}
 use Rattle.runner.proofs.Runner.run_raster.Statement.{statement}
 use Rattle.runner.proofs.Runner.run_raster.Tie as tie
@@ -12,29 +15,25 @@ returns : tie.Need-returns
 unfolding act
 returns c = rw (← c .before .before .before .opened .ensures, ← c .before .before .run-fault .ensures, ne-eqb _ _ (c .before .if1 .taken)) (c .refused .ensures)
 
-add-t39 : tie.Need-add-t39
+start-at-requires : tie.Need-start-at-requires
+start-at-requires c κs =
+    let b = c .before in
+    let a = b .before .before .before .before .before .args in
+    rw (c .repeat-begun .ensures) (path-passed (cardsOf (a .lists .now)) (a .text .now) (a .at .0) (b .before .before .opened .result) (sym (b .before .run-fault .ensures) ∙ b .if1 .left))
+
+add-t36 : tie.Need-add-t36
 unfolding sizeOf
-add-t39 c = let h = c .before .before .before .before .before .before .before .before .before .before .before .pre .1 .fits in search needs
+add-t36 c = let h = c .before .before .before .before .before .before .before .before .before .pre .1 .fits in search needs
 
 returns-2 : tie.Need-returns-2
 unfolding act
 returns-2 c =
-    let i = c .before .before .before .before .before in
-    let b = i .before .before .before .before in
-    let a = b .before .before .before .before .before in
-    let start = i .start-of .ensures (rasterAt (a .args .text .now) (a .args .at .0)) (i .before .initial-at .ensures) in
+    let i = c .before .before in
+    let s = i .before .before .before .before in
+    let b = s .before .before in
+    let e = b .before .before .before .before .before in
     rw (← b .before .before .opened .ensures, ← b .before .run-fault .ensures, b .if1 .left)
-    (begins (a .args .format) (a .args .text .now) (a .args .self) (a .args .at .0) (a .pre) _ _ (b .before .before .opened .ensures) (c .before .is-open .ensures) _ _ _ _ _ (c .before .before .before .before .id-at .ensures) start (c .before .before .before .list-at .ensures) (c .before .before .loops-at .ensures) (rw (c .if2 .taken)))
-
-returns-3 : tie.Need-returns-3
-unfolding act
-returns-3 c =
-    let i = c .before .before .before .before .before .before in
-    let b = i .before .before .before .before in
-    let a = b .before .before .before .before .before in
-    let start = i .start-of .ensures (rasterAt (a .args .text .now) (a .args .at .0)) (i .before .initial-at .ensures) in
-    rw (← b .before .before .opened .ensures, ← b .before .run-fault .ensures, b .if1 .left)
-    (begins (a .args .format) (a .args .text .now) (a .args .self) (a .args .at .0) (a .pre) _ _ (b .before .before .opened .ensures) (c .before .before .is-open .ensures) _ _ _ _ _ (c .before .before .before .before .before .id-at .ensures) start (c .before .before .before .before .list-at .ensures) (c .before .before .before .loops-at .ensures) (rw (c .before .if2 .left) (c .repeats-at2 .ensures)))
+    (begins (e .args .format) (e .args .text .now) (e .args .self) (e .args .at .0) (e .pre) _ _ (b .before .before .opened .ensures) (i .is-open .ensures) _ _ _ _ _ _ _ (s .before .repeat-begun .ensures) (i .before .before .before .id-at .ensures) (s .start-at .ensures .0) (i .before .before .list-at .ensures) (i .before .loops-at .ensures) (⊎-elim (λ w. rw (w .0 .taken) (w .1)) (λ w. rw (w .0 .left) (w .2 ∙ w .1 .ensures)) (c .before .if2 .came)) (toZ-ofZ (record { sfits = c .struct-told .given .1 .0 .1 }) ∙ s .start-at .ensures .1))
 
 pub run-raster-spec : {M : Type 1} → statement M
 run-raster-spec =
@@ -45,14 +44,11 @@ run-raster-spec =
     (λ c κs. search needs)
     returns
     (λ c κs. search needs)
+    start-at-requires
+    (λ c κs. search needs)
+    (λ c κs. search needs)
+    add-t36
     (λ c κs. search needs)
     (λ c κs. search needs)
     (λ c κs. search needs)
-    (λ c κs. search needs)
-    (λ c κs. search needs)
-    add-t39
-    (λ c κs. search needs)
-    (λ c κs. search needs)
-    (λ c κs. search needs)
-    returns-2
-    returns-3)
+    returns-2)

@@ -1,7 +1,7 @@
 -- `counted` meets its contract: 65535 comes round to 0, and below it nothing wraps. Assumes nothing.
 use native.Mathlib.Omega.{arith}
-use Rattle.status.proofs.counted.Statement.{statement}
-use Rattle.status.proofs.counted.Tie as tie
+use Rattle.octets.proofs.counted.Statement.{statement}
+use Rattle.octets.proofs.counted.Tie as tie
 
 add-result : tie.Need-add-result
 add-result c = omega arith
