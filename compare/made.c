@@ -1,6 +1,8 @@
 /*
  * made script SEED LINES [old]: a script for the desk program, as an operator in a hurry types it.
  * made tables SEED [old]: both tables, 24,256 raw bytes, for the table check at the desk.
+ * made twice SEED [old]: the same tables, and then these again with changes, in one of eight ways that the seed
+ * takes in turn: 48,512 raw bytes, for that check's `same`.
  * With `old` they are of the old kind, and for the programs' argument of that name.
  */
 #include "make.h"
@@ -54,24 +56,35 @@ static void print_script(uint32_t kind, unsigned long lines)
     }
 }
 
+static void write_tables(void)
+{
+    fwrite(seqs, 1, sizeof seqs, stdout);
+    fwrite(lists, 1, sizeof lists, stdout);
+}
+
 int main(int argc, char **argv)
 {
     uint32_t kind = PLAIN_NEW;
+    unsigned long seed;
 
     if (argc > 1 && strcmp(argv[argc - 1], "old") == 0) {
         kind = PLAIN_OLD;
         argc--;
     }
+    seed = argc > 2 ? strtoul(argv[2], NULL, 10) : 0;
+    make_seed(seed);
     if (argc == 4 && strcmp(argv[1], "script") == 0) {
-        make_seed(strtoul(argv[2], NULL, 10));
         print_script(kind, strtoul(argv[3], NULL, 10));
     } else if (argc == 3 && strcmp(argv[1], "tables") == 0) {
-        make_seed(strtoul(argv[2], NULL, 10));
         make_tables(kind, seqs, lists);
-        fwrite(seqs, 1, sizeof seqs, stdout);
-        fwrite(lists, 1, sizeof lists, stdout);
+        write_tables();
+    } else if (argc == 3 && strcmp(argv[1], "twice") == 0) {
+        make_tables(kind, seqs, lists);
+        write_tables();
+        make_change(seed % MAKE_WAYS, seqs, lists);
+        write_tables();
     } else {
-        fputs("usage: made script SEED LINES [old] | made tables SEED [old]\n", stderr);
+        fputs("usage: made script SEED LINES [old] | made tables SEED [old] | made twice SEED [old]\n", stderr);
         return 2;
     }
     return 0;

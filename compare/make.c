@@ -456,6 +456,121 @@ void make_tables(uint32_t kind, uint8_t *seqs, uint8_t *lists)
             spoil_line_list(lists + LIST_ENTRY * i);
 }
 
+/* ---- Changes in the tables ---- */
+
+/* Of either table; its size tells of which. */
+struct entry {
+    uint8_t *at;
+    unsigned size;
+};
+
+static struct entry some_list(uint8_t *lists)
+{
+    struct entry e = {lists + LIST_ENTRY * any(LISTS), LIST_ENTRY};
+    return e;
+}
+
+static struct entry some_entry(uint8_t *seqs, uint8_t *lists)
+{
+    unsigned size = taste.format->entry;
+    struct entry e = {seqs + size * any(taste.format->count), size};
+    return chance(60) ? e : some_list(lists);
+}
+
+/* Where its length byte says that it ends. */
+static unsigned end_of(struct entry e)
+{
+    return e.at[0] < e.size ? e.at[0] : e.size;
+}
+
+static void alter(uint8_t *at)
+{
+    *at ^= (uint8_t)between(1, 255);
+}
+
+/* A byte within the length, often the first or the last. */
+static void alter_within(struct entry e)
+{
+    unsigned end = end_of(e);
+    alter(e.at + (end == 0 || chance(15) ? 0 : chance(30) ? end - 1 : any(end)));
+}
+
+/* A byte past the length, if there is one, often the first. */
+static void alter_past(struct entry e)
+{
+    unsigned end = end_of(e);
+    if (end > 0 && end < e.size)
+        alter(e.at + (chance(40) ? end : between(end, e.size - 1)));
+}
+
+/* Some bytes in a row are written over, and then with their own values again. */
+static void write_again(struct entry e)
+{
+    uint8_t own[LARGEST_ENTRY];
+    unsigned from = any(e.size), count = between(1, e.size - from);
+
+    memcpy(own, e.at + from, count);
+    noise_at(e.at + from, count);
+    memcpy(e.at + from, own, count);
+}
+
+/* Zeros in its place, a copy of another, or one just made. */
+static void replace(uint8_t *seqs, uint8_t *lists)
+{
+    struct entry e = some_entry(seqs, lists), other = some_entry(seqs, lists);
+
+    if (chance(20))
+        memset(e.at, 0, e.size);
+    else if (other.size == e.size && other.at != e.at)
+        memcpy(e.at, other.at, e.size);
+    else if (e.size == LIST_ENTRY)
+        make_line_list(e.at, 1);
+    else
+        make_sequence(e.at, (unsigned)(e.at - seqs) / e.size, 1);
+}
+
+static void alter_anywhere(uint8_t *seqs, uint8_t *lists)
+{
+    unsigned sequences = taste.format->entry * taste.format->count, at = any(sequences + LIST_ENTRY * LISTS);
+    alter(at < sequences ? seqs + at : lists + (at - sequences));
+}
+
+void make_change(unsigned way, uint8_t *seqs, uint8_t *lists)
+{
+    unsigned few = between(4, 16), many = between(50, 400);
+
+    switch (way) {
+    case 0: /* a few bytes that count */
+        while (few-- > 0)
+            alter_within(some_entry(seqs, lists));
+        break;
+    case 1: /* one byte */
+        alter_anywhere(seqs, lists);
+        break;
+    case 2: /* one to four whole entries */
+        for (few /= 4; few > 0; few--)
+            replace(seqs, lists);
+        break;
+    case 3: /* many bytes that no check looks at */
+        while (many-- > 0)
+            alter_past(some_entry(seqs, lists));
+        break;
+    case 4: /* line lists alone */
+        while (few-- > 0)
+            alter_within(some_list(lists));
+        break;
+    case 5: /* bytes that are given their old values again */
+        while (few-- > 0)
+            write_again(some_entry(seqs, lists));
+        break;
+    case 6: /* none */
+        break;
+    default: /* many bytes */
+        while (many-- > 0)
+            alter_anywhere(seqs, lists);
+    }
+}
+
 /* ---- A ring of full sequences ---- */
 
 static uint8_t *put(uint8_t *at, const uint8_t *bytes, size_t n)

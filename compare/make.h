@@ -32,6 +32,10 @@ void make_taste(uint32_t kind, unsigned sequences, unsigned lists);
 /* Both tables whole, to a taste of their own. */
 void make_tables(uint32_t kind, uint8_t *seqs, uint8_t *lists);
 
+/* Changes both tables, in one of so many ways; some of them leave every byte as it was that a check looks at. */
+enum { MAKE_WAYS = 8 };
+void make_change(unsigned way, uint8_t *seqs, uint8_t *lists);
+
 /* A ring of full sequences, 0 to n - 1, each 128 bytes with four rasters, or of the old kind 255 bytes with
  * eight: 2 repeats of 2 loops of an exposure each, and delays; and line list 0, full with 25 windows. All
  * rasters have these science flags, and the last window alone has the marks for them. They also have this

@@ -890,3 +890,57 @@ uint32_t plain_check(uint32_t kind, const uint8_t *seqs, size_t seqs_len, const 
         sequence = found.next;
     }
 }
+
+/* ---- What was checked, and what is there now ---- */
+
+/* The line lists that a sequence which passed names in its rasters. */
+static void note_lists(const struct format *format, const uint8_t *text, bool *used)
+{
+    unsigned size;
+    for (unsigned at = FIRST_COMMAND; (size = size_at(format, text, at)) != 0; at += size)
+        if (text[at] == RUN_RASTER)
+            used[raster_list(text + at)] = true;
+}
+
+/* The lowest address of a byte of a table that differs in a wanted entry, within the length that this had; or 0. */
+static uint32_t first_change(uint32_t table, unsigned entry, unsigned count, const bool *wanted,
+                             const uint8_t *was, const uint8_t *is)
+{
+    for (unsigned i = 0; i < count; i++) {
+        unsigned start = entry * i, end = start + was[start];
+        for (unsigned at = start; wanted[i] && at < end; at++)
+            if (was[at] != is[at])
+                return table + at;
+    }
+    return 0;
+}
+
+uint32_t plain_still(uint32_t kind, const uint8_t *seqs, size_t seqs_len, const uint8_t *lists, size_t lists_len,
+                     const uint8_t *now_seqs, size_t now_seqs_len, const uint8_t *now_lists, size_t now_lists_len,
+                     uint32_t number, uint8_t *report, size_t report_len)
+{
+    const struct format *format = format_of(kind);
+    bool listed[MOST_SEQUENCES] = {false}, used[LAST_LINE_LIST + 1] = {false};
+    uint32_t code, changed;
+    unsigned count;
+
+    if (report_len == PLAIN_REPORT && (now_seqs_len != PLAIN_SEQUENCES || now_lists_len != PLAIN_LINE_LISTS)) {
+        memset(report, 0, PLAIN_REPORT);
+        return report[0] = BAD_SIZES;
+    }
+    code = plain_check(kind, seqs, seqs_len, lists, lists_len, number, report, report_len);
+    if (code != 0)
+        return code;
+
+    count = word(report + 6);
+    for (unsigned i = 0; i < count; i++) {
+        unsigned sequence = report[CHAIN + i];
+        listed[sequence] = true;
+        note_lists(format, sequence_of(format, seqs, sequence), used);
+    }
+    /* All sequences lie below all line lists. */
+    changed = first_change(SEQUENCES_AT, format->entry, format->count, listed, seqs, now_seqs);
+    if (changed == 0)
+        changed = first_change(LINE_LISTS_AT, LINE_LIST_ENTRY, LAST_LINE_LIST + 1, used, lists, now_lists);
+    return changed << 8;
+}

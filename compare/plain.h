@@ -1,8 +1,8 @@
 /*
- * The control unit in plain C, written from document 01 alone, P4's reasons, P1's marks, P10's kinds and
- * P5's shift added: it shares no text with the proved library, and stands beside it to be compared. The
- * four calls, the lent bytes and the answers are those of keel.h, under other names; the test of a line
- * list and its marks are for the desk's table check.
+ * The control unit in plain C, written from document 01 alone, P4's reasons, P1's marks, P10's kinds,
+ * P5's shift and P14's comparison added: it shares no text with the proved library, and stands beside it to
+ * be compared. The four calls, the lent bytes and the answers are those of keel.h, under other names; the
+ * comparison, the test of a line list and its marks are for the desk's table check.
  */
 #ifndef PLAIN_H
 #define PLAIN_H
@@ -76,6 +76,18 @@ uint64_t plain_step(uint32_t kind,
 uint32_t plain_check(uint32_t kind,
                      const uint8_t *seqs, size_t seqs_len,
                      const uint8_t *lists, size_t lists_len,
+                     uint32_t number,
+                     uint8_t *report, size_t report_len);
+
+/* Checks a sequence as plain_check does, report and all, and if it passes compares the tables with those of
+ * now: each listed sequence and each line list that one of them uses, within their lengths, and no other
+ * byte. Answers the code + 256 x the lowest address of a byte that differs, or 0 for that if none does. The
+ * code is 16 also for tables of now of wrong size, before any other. */
+uint32_t plain_still(uint32_t kind,
+                     const uint8_t *seqs, size_t seqs_len,
+                     const uint8_t *lists, size_t lists_len,
+                     const uint8_t *now_seqs, size_t now_seqs_len,
+                     const uint8_t *now_lists, size_t now_lists_len,
                      uint32_t number,
                      uint8_t *report, size_t report_len);
 

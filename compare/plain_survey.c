@@ -3,6 +3,10 @@
  * sequence table, then the line lists. With `old` as the first argument the tables are of the old kind.
  * The other arguments are sequence numbers; none means all of them. The argument `lists` stands for the
  * test of all line lists.
+ *
+ * With `same` as the first argument, or right after that `old`, standard input is both dumps of noon and then
+ * both of now, and every sequence that noon's check passes is said to be the same, or to be changed and where.
+ * All arguments after it are sequence numbers.
  */
 #include "plain.h"
 
@@ -75,13 +79,10 @@ static void survey_lists(const uint8_t *lists)
     }
 }
 
-static void survey(uint32_t kind, const uint8_t *tables, const char *word)
+static void print_report(const uint8_t *report, const char *word)
 {
-    uint8_t report[PLAIN_REPORT];
     unsigned count;
 
-    plain_check(kind, tables, PLAIN_SEQUENCES, tables + PLAIN_SEQUENCES, PLAIN_LINE_LISTS, number_of(word),
-                report, sizeof report);
     switch (report[1]) {
     case PLAIN_ENDS:
         printf("PASS %s ENDS %llu %llu", word, total(report + 8), total(report + 16));
@@ -101,27 +102,55 @@ static void survey(uint32_t kind, const uint8_t *tables, const char *word)
     print_reason(report[4], report[5]);
 }
 
+static void survey(uint32_t kind, const uint8_t *tables, const char *word)
+{
+    uint8_t report[PLAIN_REPORT];
+
+    plain_check(kind, tables, PLAIN_SEQUENCES, tables + PLAIN_SEQUENCES, PLAIN_LINE_LISTS, number_of(word),
+                report, sizeof report);
+    print_report(report, word);
+}
+
+/* The tables are noon's, and now's stand right behind them. */
+static void survey_same(uint32_t kind, const uint8_t *tables, const char *word)
+{
+    const uint8_t *now = tables + TABLES;
+    uint8_t report[PLAIN_REPORT];
+    uint32_t answer = plain_still(kind, tables, PLAIN_SEQUENCES, tables + PLAIN_SEQUENCES, PLAIN_LINE_LISTS, now,
+                                  PLAIN_SEQUENCES, now + PLAIN_SEQUENCES, PLAIN_LINE_LISTS, number_of(word),
+                                  report, sizeof report);
+
+    if ((answer & 0xFF) != 0)
+        print_report(report, word);
+    else if (answer != 0)
+        printf("CHANGED %s %06X\n", word, answer >> 8);
+    else
+        printf("SAME %s\n", word);
+}
+
 int main(int argc, char **argv)
 {
-    static uint8_t tables[TABLES + 1]; /* one more, to see an input that is too long */
+    static uint8_t tables[2 * TABLES + 1]; /* one more, to see an input that is too long */
     bool old = argc > 1 && strcmp(argv[1], "old") == 0;
+    bool same = argc > 1 + old && strcmp(argv[1 + old], "same") == 0;
+    void (*ask)(uint32_t, const uint8_t *, const char *) = same ? survey_same : survey;
     uint32_t kind = old ? PLAIN_OLD : PLAIN_NEW;
-    int first = old ? 2 : 1;
+    int first = 1 + old + same;
 
-    if (fread(tables, 1, sizeof tables, stdin) != TABLES) {
+    if (fread(tables, 1, sizeof tables, stdin) != (same ? 2 * TABLES : TABLES)) {
         puts("REFUSED TABLES 16");
     } else if (argc > first) {
         for (int i = first; i < argc; i++) {
-            if (strcmp(argv[i], "lists") == 0)
+            if (!same && strcmp(argv[i], "lists") == 0)
                 survey_lists(tables + PLAIN_SEQUENCES);
             else
-                survey(kind, tables, argv[i]);
+                ask(kind, tables, argv[i]);
         }
     } else {
         for (int i = 0; i < (old ? OLD_SEQUENCES : SEQUENCES); i++) {
             char word[12];
             snprintf(word, sizeof word, "%d", i);
-            survey(kind, tables, word);
+            ask(kind, tables, word);
         }
     }
     return 0;

@@ -3,10 +3,11 @@
 # With no stage it runs all of these, in this order:
 #   plain    builds the plain programs and runs the demonstrations through the plain desk
 #   self     the driver and the benchmark with the plain library on both sides, then with a wrong
-#            rule planted in one of them, which the driver must find
+#            rule planted in one of them, which the driver must find; wrong rules for `same`, which made tables must show
 #   library  the driver with the proved library
 #   desks    the two desk programs on scripts for either kind of tables: equal output
-#   surveys  the two table checks at the desk on tables of either kind, and their tests of the line lists: equal output
+#   surveys  the two table checks at the desk on tables of either kind, their tests of the line lists, and what they say of
+#            tables of noon and of now: equal output
 #   bench    one table of times, proved and plain side by side; its last line names the rows over their bar
 # By name alone:
 #   baseline         the same as bench, and its rows are kept in compare/baseline.txt
@@ -51,7 +52,7 @@ assemble() { # PROGRAM FILE..
 }
 
 as_keel=(-Dplain_power_on=keel_power_on -Dplain_packet=keel_packet -Dplain_step=keel_step -Dplain_check=keel_check
-    -Dplain_line_list=keel_line_list -Dplain_marks=keel_marks)
+    -Dplain_still=keel_still -Dplain_line_list=keel_line_list -Dplain_marks=keel_marks)
 
 build_plain() {
     mkdir -p "$build"
@@ -78,23 +79,51 @@ stage_plain() {
     done
 }
 
+# What the driver says of a library with a planted rule beside the plain one, where the two disagree.
+driver_finds() {
+    compile "$self/planted.o" "$self/planted.c" "${as_keel[@]}"
+    assemble "$self/planted" "$self/driver.o" "$build/make.o" "$build/plain.o" "$self/planted.o"
+    run "$self/planted" 1 "$rounds" >"$self/planted.out" || true
+    sed -n '1{/^DISAGREE/p}' "$self/planted.out"
+}
+
+# Where the table check at the desk has another answer to `same` with a planted rule, on the tables that `surveys` takes.
+same_finds() {
+    local seed kind
+    compile "$self/planted.o" "$self/planted.c"
+    assemble "$self/planted" "$build/plain_survey.o" "$self/planted.o"
+    for seed in {1..16}; do
+        for kind in '' old; do
+            run "$build/made" twice "$seed" $kind >"$self/twice.bin"
+            run "$build/plain_survey" $kind same <"$self/twice.bin" >"$self/plain.out"
+            run "$self/planted" $kind same <"$self/twice.bin" | cmp -s - "$self/plain.out" ||
+                { echo "DISAGREE at ${kind:+$kind }same, tables $seed"; return; }
+        done
+    done
+}
+
+# Plants each wrong rule of FILE in a plain library; FINDS must say where it shows.
+each_planted() { # FILE FINDS
+    local name rule found
+    while IFS=$'\t' read -r name rule; do
+        sed "$rule" "$here/plain.c" >"$self/planted.c"
+        if cmp -s "$here/plain.c" "$self/planted.c"; then echo "planted, $name: it changes nothing"; return 1; fi
+        found=$(set -e; "$2")
+        [ -n "$found" ] || { echo "planted, $name: NOT FOUND"; return 1; }
+        echo "planted, $name: $found"
+    done <"$1"
+}
+
 stage_self() {
-    local self=$build/self name rule
+    local self=$build/self
     mkdir -p "$self"
     sed 's/plain_/keel_/g; s/PLAIN/KEEL/g' "$here/plain.h" >"$self/keel.h"
     compile "$self/keel.o" "$here/plain.c" "${as_keel[@]}"
     build_over "$self" "$self" "$self/keel.o"
     run "$self/driver" 1 "$((rounds / 10))" | tail -n 1
     run "$self/bench" | awk -f "$here/table.awk" /dev/null /dev/null -
-    while IFS=$'\t' read -r name rule; do
-        sed "$rule" "$here/plain.c" >"$self/planted.c"
-        if cmp -s "$here/plain.c" "$self/planted.c"; then echo "planted, $name: it changes nothing"; return 1; fi
-        compile "$self/planted.o" "$self/planted.c" "${as_keel[@]}"
-        assemble "$self/planted" "$self/driver.o" "$build/make.o" "$build/plain.o" "$self/planted.o"
-        run "$self/planted" 1 "$rounds" >"$self/planted.out" || true
-        grep -q '^DISAGREE' "$self/planted.out" || { echo "planted, $name: NOT FOUND"; return 1; }
-        echo "planted, $name: $(head -n 1 "$self/planted.out")"
-    done <"$here/planted.txt"
+    each_planted "$here/planted.txt" driver_finds
+    each_planted "$here/planted-same.txt" same_finds
 }
 
 # What the proved archive is made of: the kit and the crates' code, definitions and proofs.
@@ -240,9 +269,9 @@ same_survey() { # INPUT WORD..
     run "$build/plain_survey" "${@:2}" <"$1" | cmp - "$build/survey.out"
 }
 
-# Each table also as one of the other kind, and `old` where it is a word like any other.
+# Each table also as one of the other kind, and `old` and `same` where they are words like any other.
 stage_surveys() {
-    local tables=$build/survey.bin old=$build/survey-old.bin seed
+    local tables=$build/survey.bin old=$build/survey-old.bin twice=$build/twice.bin old_twice=$build/twice-old.bin seed
     rt check tablecheck
     for seed in 1 2 3 4 5 6 7 8; do
         run "$build/made" tables "$seed" >"$tables"
@@ -270,7 +299,39 @@ stage_surveys() {
     same_survey /dev/null
     same_survey /dev/null lists
     same_survey /dev/null old
-    echo "surveys: equal output on 8 tables of each kind, their line lists, odd words and tables of wrong size"
+    for seed in {1..16}; do
+        run "$build/made" twice "$seed" >"$twice"
+        same_survey "$twice" same
+        same_survey "$twice" old same
+        run "$build/made" twice "$seed" old >"$old_twice"
+        same_survey "$old_twice" old same
+        same_survey "$old_twice" same
+    done
+    same_survey "$twice" same 127 0 5 128 x lists same
+    same_survey "$twice" same old 5 5 05 65535 65536
+    same_survey "$old_twice" old same 63 64
+    same_survey "$old_twice" old same 0 5 old lists same 127 x
+    same_survey "$tables" lists lists lists lists lists "$(printf 'x%.0s' {1..60000})" 5 lists
+    same_survey "$tables" 5 same
+    same_survey "$tables" lists same
+    same_survey "$tables" sames 5
+    same_survey "$old" old 5 same
+    same_survey "$old" old old same
+    same_survey "$twice"
+    same_survey "$twice" 5 same
+    same_survey "$old_twice" old
+    same_survey "$tables" same
+    same_survey "$old" old same
+    head -c 48511 "$twice" >"$build/short.bin"
+    same_survey "$build/short.bin" same
+    same_survey "$build/short.bin" old same 0
+    { cat "$twice"; printf x; } >"$build/long.bin"
+    same_survey "$build/long.bin" same
+    same_survey "$build/long.bin" old same 0
+    same_survey /dev/null same
+    same_survey /dev/null old same
+    echo "surveys: equal output on 8 tables of each kind, their line lists, odd words and tables of wrong size;" \
+        "with \`same\` on 16 pairs of tables of each kind, odd words and pairs of wrong size; a long word among many lines"
 }
 
 # Runs PROGRAM on INPUT and counts it. WANTED is document 01's: the reason, which P4 puts at the end of a fault with code 7, is cut off

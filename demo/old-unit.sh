@@ -1,8 +1,9 @@
 #!/bin/sh
 # old-unit.sh [quick | built]: the unit on the bench, whose sequences are 256 bytes apart: `desk old` and `tablecheck old`. Sequence 1, at
 # 0x070100, has 255 bytes, which go up in two packets, and its loop backs lead past place 127; sequence 0 calls 64, which this unit has not. Both
-# tables are dumped and checked, under the old kind and under the new one; then sequence 1 is run to its end, and sequence 0 to its abort. Lines to
-# the desk stand after `>`, as long as they are shown. Its word is handed to run.sh.
+# tables are dumped and checked, under the old kind and under the new one; then sequence 1 is run to its end, and sequence 0 to its abort. Last,
+# the check is held against tables with another byte, behind sequence 1 and at its end. Lines to the desk stand after `>`, as long as they are
+# shown. Its word is handed to run.sh.
 set -eu
 cd "$(dirname "$0")/.."
 room=$(mktemp -d)
@@ -48,3 +49,16 @@ echo '> tablecheck old 1 0 63 64'
 sh run.sh "$@" tablecheck old 1 0 63 64 <"$room/tables"
 echo '> tablecheck 1 2 0 64'
 sh run.sh "$@" tablecheck 1 2 0 64 <"$room/tables"
+
+# The tables, and after them the same with another byte at an offset.
+twice() { # OFFSET
+    cat "$room/tables"
+    head -c "$1" "$room/tables"
+    printf '\252'
+    tail -c +"$(($1 + 2))" "$room/tables"
+}
+
+echo '> tablecheck old same 1 0 64, the byte behind sequence 1 another'
+twice 511 | sh run.sh "$@" tablecheck old same 1 0 64
+echo '> tablecheck old same 1 0 64, its checksum another'
+twice 510 | sh run.sh "$@" tablecheck old same 1 0 64

@@ -138,8 +138,19 @@ module _ (F : Format) (s l : List ℕ) (a len k : ℕ) (told : k ≡ windowCode 
   hidden n = simp (← told, ne-eqb k 0 n)
 
 -- ── entries
+-- a part of a table: its bytes, how long it is at most, and that it is as long in another table of that length
+module _ (s : List ℕ) (at size : ℕ) where
+  pub part-byte : (i : ℕ) → i < size → getD (take size (drop at s)) i 0 ≡ getD s (at + i) 0
+  part-byte i h = getD-take size (drop at s) i 0 h ∙ getD-drop at s i 0
+
+  pub part-short : length (take size (drop at s)) ≤ size
+  part-short = simp length-take (omega arith)
+
+  pub part-long : (s′ : List ℕ) → length s′ ≡ length s → length (take size (drop at s′)) ≡ length (take size (drop at s))
+  part-long s′ e = simp (length-take, length-drop) (rw e)
+
 pub entry-short : (F : Format) (s : List ℕ) (n : ℕ) → length (entryOf F s n) ≤ F .size
-entry-short F s n = simp length-take (omega arith)
+entry-short F s n = part-short s (n * F .size) (F .size)
 
 -- ── writes
 -- the byte at a place of two lists, one after the other, past the first

@@ -115,6 +115,13 @@ impl Address {
         }
         Addressed::Nowhere
     }
+
+    // The address's number.
+    pub fn number(self) -> u32
+        ensures { λ r. ⌜ r ≡ self .0 ⌝ }
+    {
+        self.0
+    }
 }
 
 // A range of memory: in the sequence table or in the line lists at an offset, or wholly in neither.

@@ -1,4 +1,5 @@
--- Laws of tests: what `&&` and `||` tell, what holds whichever way a test goes, and a test that is computed for many numbers. Assumes nothing.
+-- Laws of tests: what `&&` and `||` tell, what holds whichever way a test goes, and a test that is computed for many numbers; and of two variants of
+-- a type. Assumes nothing.
 use Prim.Native.Nat.{ℕ, zero, suc, _<_}
 use native.Mathlib.Omega.{arith}
 use mathlib.Core.Path.{_≡_, refl, sym, subst}
@@ -12,6 +13,10 @@ and-both a b = and-eq-true-iff a b .0
 pub and-T : (a b : Bool) → T (a && b) → (a ≡ true) × T b
 and-T true b p = (refl, p)
 and-T false b p = absurd p
+
+-- two variants are never the same: of an equation between them `cc` makes this one
+pub clash : _≡_ {A = ℕ} 0 1 → ⊥
+clash z = omega arith
 
 pub or-neither : (a b : Bool) → (a || b) ≡ false → (a ≡ false) × (b ≡ false)
 or-neither true b e = absurd (true≢false e)

@@ -7,10 +7,16 @@ use Rattle.memory.specs.Memory.{flight, bench}
 use Rattle.promises.specs.Formats.{Fills}
 use Rattle.promises.specs.Library.{ours}
 use Rattle.promises.specs.Demand3.{Demand3, Applies, SelectionObeyed, Starts, Passed, Faulted, Returning, EveryLap}
+use Rattle.promises.specs.Stays.{Stays, FaultStays, StaysAfter, StaysUntouched, StaysRuns, FaultRuns, PlanStays, StillExact}
 use Rattle.promises.specs.Refuted.{CheckDecided}
 use Rattle.promises.proofs.Packets.Starts.{applies, selects, starts}
 use Rattle.promises.proofs.Demand3.{demand3, passed, faulted, returning}
 use Rattle.promises.proofs.EveryLap.{every-lap}
+use Rattle.promises.proofs.Stays.Rests.{stays, fault-stays}
+use Rattle.promises.proofs.Stays.Planned.{plan-stays}
+use Rattle.promises.proofs.Stays.Since.{stays-after, stays-untouched}
+use Rattle.promises.proofs.Stays.Begun.{stays-runs, fault-runs}
+use Rattle.promises.proofs.Stays.Still.{still-exact}
 use Rattle.promises.proofs.Decided.{check-decided}
 
 pub record Promised (F : Format) : Type 0 where
@@ -23,6 +29,14 @@ pub record Promised (F : Format) : Type 0 where
   pub returning : Returning F ours
   pub everyLap : EveryLap F ours
   pub decided : CheckDecided F
+  pub stays : Stays F ours
+  pub faultStays : FaultStays F ours
+  pub staysAfter : StaysAfter F ours
+  pub staysUntouched : StaysUntouched F ours
+  pub staysRuns : StaysRuns F ours
+  pub faultRuns : FaultRuns F ours
+  pub planStays : PlanStays F ours
+  pub stillExact : StillExact F ours
 
 pub every-format : (F : Format) → Fills F → Promised F
 every-format F full =
@@ -36,6 +50,14 @@ every-format F full =
       returning = returning full;
       everyLap = every-lap full;
       decided = check-decided full;
+      stays = stays;
+      faultStays = fault-stays;
+      staysAfter = stays-after;
+      staysUntouched = stays-untouched;
+      staysRuns = stays-runs full;
+      faultRuns = fault-runs full;
+      planStays = plan-stays;
+      stillExact = still-exact full;
     }
 
 pub flight-fills : Fills flight

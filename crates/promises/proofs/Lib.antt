@@ -8,8 +8,9 @@
 --   Demand2        from Packets and Run: each answer and each effect; EachStep and EachCheck sentence by sentence
 --   Sentences      from EachCheck: no other check fits its sentences
 --   Demand3        from Chain, Range and Packets: the unit keeps what the check tells; EveryLap, for good
+--   Stays          from Demand3 and EveryLap: a pass stays a pass where the bytes that it rests on do, and `still` says exactly where
 --   Decided        from Demand3: the check can tell nothing else
---   Refuted        from Decided, and by computing over the sample tables (sequence/proofs): the wrong libraries that document 01 names keep no such demand
+--   Refuted        from Decided, and by computing over the sample tables (sequence/proofs): the wrong libraries that document 01 names keep no such demand; no less will do for a premise of Stays
 --   EveryFormat    Demand3, EveryLap and Decided of every format that fills the table; the two kinds' do
 --   Flags          by computing: the answer for every science byte over every set of marks
 --   Samples        by computing
@@ -27,6 +28,7 @@ pub mod EachCheck
 pub mod Sentences
 pub mod Demand3
 pub mod EveryLap
+pub mod Stays
 pub mod Decided
 pub mod EveryFormat
 pub mod Flags

@@ -16,6 +16,7 @@ use Rattle.promises.specs.OneAnswer.{
   OneMemoryPlaceOf,
   OneMemoryPlaceNumber,
   OneMemoryAddressOf,
+  OneMemoryAddressNumber,
   OneMemoryAddressRange,
   OneMemoryRangeAt,
   OneMemoryAddressedRange,
@@ -57,6 +58,7 @@ use Rattle.promises.specs.OneAnswer.{
   OneSurveyCheck,
   OneSurveyCheckOne,
   OneSurveyReasonShown,
+  OneSurveyStill,
   OneTelecommandTelecommandOf,
   OneTelecommandTelecommandShapeFault,
   OneTelecommandPairAllowed,
@@ -149,6 +151,9 @@ one-result-memory-Place-number κs a r r′ e e′ p q = p ∙ sym q
 
 pub one-result-memory-Address-of : OneMemoryAddressOf
 one-result-memory-Address-of κs a r r′ e e′ p q = p ∙ sym q
+
+pub one-result-memory-Address-number : OneMemoryAddressNumber
+one-result-memory-Address-number κs a r r′ e e′ p q = p ∙ sym q
 
 pub one-result-memory-Address-range : OneMemoryAddressRange
 one-result-memory-Address-range κs a r r′ e e′ p q = p ∙ sym q
@@ -281,6 +286,9 @@ one-result-survey-check-one κs a r r′ e e′ p q = p ∙ sym q
 
 pub one-result-survey-Reason-shown : OneSurveyReasonShown
 one-result-survey-Reason-shown κs a r r′ e e′ p q = p ∙ sym q
+
+pub one-result-survey-still : OneSurveyStill
+one-result-survey-still κs a r r′ e e′ p q = p ∙ sym q
 
 -- ── telecommand
 pub one-result-telecommand-telecommand-of : OneTelecommandTelecommandOf

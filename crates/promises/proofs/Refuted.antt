@@ -1,6 +1,6 @@
 -- Wrong libraries, refuted: each demand is asked of a library over tables and packets that are written out, and what it says of them computes to
 -- something false. Assumes nothing.
-use Prim.Native.Nat.{ℕ}
+use Prim.Native.Nat.{ℕ, _+_, _-_, _≤_, _<_}
 use native.Mathlib.Omega.{arith}
 use mathlib.Core.Path.{_≡_, refl, sym, ap, subst, _∙_}
 use mathlib.Core.Bool.{Bool, true, false, true≢false, false≢true}
@@ -9,15 +9,17 @@ use mathlib.Core.Logic.{inl, inr}
 use lib.Dec.{eqb}
 use lib.IntN.{pos}
 use lib.ListN.{length, getD}
+use borrow.Author.Tests.{eqb-true}
 use Rattle.octets.specs.Bytes.{byteAt, tripleAt, xorOn}
+use Rattle.octets.proofs.Bools.{below-all}
 use Rattle.memory.specs.declared.Format.{Format}
-use Rattle.memory.specs.Memory.{flight, fills, tablesWrong, rangeOf, rangeAt}
+use Rattle.memory.specs.Memory.{flight, entryOf, fills, tablesWrong, rangeOf, rangeAt}
 use Rattle.sequence.specs.Text.{fault, limit, lengthGood, xorGood, headerRows, headerOf, sizeOf, decoded, noneThere, commandAt, sizeAt}
 use Rattle.sequence.specs.Starts.{starts, startsOf, among, exposesBetween, firstExposure, targetGood}
 use Rattle.sequence.specs.Raster.{rasterAt, flagsGood, markMissing, someStrays}
 use Rattle.sequence.specs.LineList.{checksumOf, marked, marksOf, listCard}
 use Rattle.sequence.specs.Env.{envOf}
-use Rattle.sequence.proofs.SampleTables.{seqs, lists, ends, calls, lineList, fields, raster}
+use Rattle.sequence.proofs.SampleTables.{seqs, lists, ends, calls, lineList, fields, raster, theRaster}
 use Rattle.runner.specs.declared.Runner.{Runner}
 use Rattle.runner.specs.declared.Stepped.{Stepped}
 use Rattle.runner.specs.declared.Event.{Event}
@@ -28,7 +30,8 @@ use Rattle.survey.specs.declared.Ending.the-variants.{Finishes, Faults}
 use Rattle.survey.specs.declared.Reason.the-variants.{None}
 use Rattle.survey.specs.Walk.{walked, walk, checkOne}
 use Rattle.survey.specs.Chain.{Told, told, onward, follow, chainOf, checkRows, checkOf}
-use Rattle.survey.specs.Report.{reasonOf, reasonShown}
+use Rattle.survey.specs.Report.{EndingShown, endingAs, endingShown, reasonOf, reasonShown}
+use Rattle.survey.proofs.Listing.{among-case}
 use Rattle.unit.specs.declared.Unit.{Unit as ControlUnit}
 use Rattle.unit.specs.declared.Outcome.{Outcome}
 use Rattle.unit.specs.declared.Outcome.the-variants.{Denied, Saw}
@@ -43,12 +46,16 @@ use Rattle.promises.specs.Runs.{isA, ShownAs, Showing, idle, enters}
 use Rattle.promises.specs.Demand2.{Lent, InRange, InSequences, StepTakes}
 use Rattle.promises.specs.EachStep.{EnterStep}
 use Rattle.promises.specs.Demand3.{World, world, step, packet, after, outcomes, Reached, powered, acted, modeOf, selecting, starting, callingBack, exposedPositions, Works, FirstThen, GoesOn, EndsOrReturns, KeepsPassed, Demand3}
-use Rattle.promises.specs.Refuted.{RefusingFails, WritingNothingFails, IdlingFails, UnitIdlingFails, FinishingAtFirstFails, UnitFinishingFails, FinishingAtCallFails, withCheck, withSteps, PassingAllFails, FaultingAllFails, InventedStepsFail, InventedExposuresFail, IdleUnitFails, refusesAll, writesNothing, alwaysIdle, finishesAtFirst, atCall, finishesAtCall, passesAll, faultsAll, inventsSteps, inventsExposures, mirrorEachExposure, repeatAtLast, faultyRasterPassed, dropsReasons, uplinkWhileRunning, Refuted, MisreadRefuted}
+use Rattle.promises.specs.EachCheck.{Given}
+use Rattle.promises.specs.Stays.{WithinLength, OfSequence, RestsOn, Untouched, StaysIf}
+use Rattle.promises.specs.Refuted.{RefusingFails, WritingNothingFails, IdlingFails, UnitIdlingFails, FinishingAtFirstFails, UnitFinishingFails, FinishingAtCallFails, withCheck, withSteps, PassingAllFails, FaultingAllFails, InventedStepsFail, InventedExposuresFail, IdleUnitFails, refusesAll, writesNothing, alwaysIdle, finishesAtFirst, atCall, finishesAtCall, passesAll, faultsAll, inventsSteps, inventsExposures, mirrorEachExposure, repeatAtLast, faultyRasterPassed, dropsReasons, uplinkWhileRunning, Refuted, MisreadRefuted, AllButLast, PremiseRefuted}
 use Rattle.promises.proofs.Run.Events.{fault-so, passed-so}
 use Rattle.promises.proofs.EveryFormat.{flight-fills}
 use Rattle.promises.proofs.Packets.Actions.{steps, stepped-on}
 use Rattle.promises.proofs.Packets.Needs.{obeyed-exactly}
 use Rattle.promises.proofs.Decided.{check-decided}
+use Rattle.promises.proofs.Stays.Since.{by-table}
+use Rattle.promises.proofs.Samples.{badSum, callsOn}
 
 -- ── what is written out
 -- sequence 0 terminates at once; it calls itself
@@ -293,3 +300,67 @@ misread-refuted =
           (λ z. z, (λ z. let e = ap (λ (b : List ℕ). byteAt b 0) (z .0) in omega arith, (λ z. z, tt))) in
           false≢true (r .never .1 .0);
     }
+
+-- ── the premise of "a pass stays a pass": tables of then and of now that differ in one byte
+-- sequence 0 calls 1, which terminates, with this checksum
+abbrev two : ℕ → List ℕ
+two sum = callsOn 128 (ends sum)
+
+abbrev checks : List ℕ → List ℕ → Told
+checks sequence list = ours .checks flight (seqs sequence) (lists list) 0
+
+-- computed: the sizes are right, then the check told that the chain ends, and now it finds this fault
+record Touched (sequence list sequence′ list′ names : List ℕ) (steps exposures : ℕ) (now : EndingShown) : Type 0 where
+  given : Given flight (seqs sequence) (lists list) 0
+  given-now : Given flight (seqs sequence′) (lists list′) 0
+  then-so : checks sequence list ≡ told names Finishes steps exposures
+  now-so : endingShown (checks sequence′ list′ .ending) ≡ now
+
+sized : {sequence list : List ℕ} → length sequence ≡ 16384 → length list ≡ 7872 → Given flight sequence list 0
+sized s l = record { format = flight-fills; sequences = s; lineLists = l; number = omega arith }
+
+touched : Touched theRaster (lineList 1) theRaster badSum (0 ∷ []) 16 6 (endingAs 3 7 0 4) × Touched (two 0x92) [] (two 0x93) [] (0 ∷ 1 ∷ []) 4 0 (endingAs 3 2 1 0)
+unfolding xorOn fills tablesWrong limit lengthGood xorGood headerRows headerOf sizeOf decoded noneThere commandAt sizeAt starts startsOf among exposesBetween firstExposure targetGood rasterAt flagsGood markMissing someStrays checksumOf marked marksOf listCard pathRows rasterRows runRows exposeRows loopRows closeRows judged judge walked walk checkOne onward follow chainOf checkRows checkOf
+touched = (
+  record { given = sized refl refl; given-now = sized refl refl; then-so = refl; now-so = refl },
+  record { given = sized refl refl; given-now = sized refl refl; then-so = refl; now-so = refl },
+)
+
+-- what passed then is a fault now, though these addresses are untouched: so they are not enough
+no-premise : (Rests : Format → List ℕ → List ℕ → List ℕ → ℕ → Type 0) (sequence list sequence′ list′ names : List ℕ) (steps exposures code n place : ℕ)
+    → Touched sequence list sequence′ list′ names steps exposures (endingAs 3 code n place)
+    → Untouched (Rests flight (seqs sequence) (lists list) names) (seqs sequence) (lists list) (seqs sequence′) (lists list′)
+    → StaysIf EndsOrReturns Rests flight ours → ⊥
+no-premise Rests sequence list sequence′ list′ names steps exposures code n place c u stays =
+    let same =
+    subst (λ (t : Told). EndsOrReturns (t .ending) → Untouched (Rests flight (seqs sequence) (lists list) (t .names)) (seqs sequence) (lists list) (seqs sequence′) (lists list′) → checks sequence′ list′ ≡ t)
+    (c .then-so) (stays (seqs sequence) (lists list) (seqs sequence′) (lists list′) 0 (c .given) (c .given-now)) (inl refl) u in
+    let z : _≡_ {A = ℕ} 3 1 = ap (λ (e : EndingShown). e .number) (sym (c .now-so) ∙ ap (λ (t : Told). endingShown (t .ending)) same) in omega arith
+
+-- the bytes of sequence 0 that count are the first of the table, as many as its byte 0 says
+of-first : (sequence list : List ℕ) (size : ℕ) → byteAt (entryOf flight (seqs sequence) 0) 0 ≡ size → (a : ℕ) → OfSequence WithinLength flight (seqs sequence) list (0 ∷ []) a
+    → (0x070000 ≤ a) × (a < 0x070000 + size)
+unfolding among
+of-first sequence list size s a (n, i, l, c, e) =
+    among-case n 0 [] l
+    (λ z. let d : i < byteAt (entryOf flight (seqs sequence) 0) 0 = subst (λ (m : ℕ). i < byteAt (entryOf flight (seqs sequence) m) 0) (sym z) c in (omega arith, omega arith))
+    (λ w. absurd (false≢true w))
+
+pub premise-refuted : PremiseRefuted
+premise-refuted =
+    record {
+      without-line-lists =
+          no-premise (OfSequence WithinLength) theRaster (lineList 1) theRaster badSum (0 ∷ []) 16 6 7 0 4 (touched .0)
+          (λ a r. let h = of-first theRaster (lists (lineList 1)) 0x22 refl a r in by-table (seqs theRaster) (lists (lineList 1)) (seqs theRaster) (lists badSum) a (λ _. refl) (λ l. absurd (omega arith)));
+      without-last =
+          no-premise AllButLast (two 0x92) [] (two 0x93) [] (0 ∷ 1 ∷ []) 4 0 2 1 0 (touched .1)
+          (λ a r. by-table (seqs (two 0x92)) (lists []) (seqs (two 0x93)) (lists []) a (λ h. first-bytes a h r) (λ _. refl));
+    }
+  where
+    -- of sequence 0 both have the same seven bytes
+    first-bytes : (a : ℕ) → a < 0x074000 → RestsOn WithinLength flight (seqs (two 0x92)) (lists []) (0 ∷ []) a
+        → byteAt (seqs (two 0x93)) (a - 0x070000) ≡ byteAt (seqs (two 0x92)) (a - 0x070000)
+    first-bytes a h (inl r) =
+        let (least, most) = of-first (two 0x92) (lists []) 7 refl a r in
+        eqb-true _ _ (below-all (λ i. eqb (byteAt (seqs (two 0x93)) i) (byteAt (seqs (two 0x92)) i)) 7 (a - 0x070000) refl (omega arith))
+    first-bytes a h (inr (n, k, i, _, _, _, e)) = absurd (omega arith)

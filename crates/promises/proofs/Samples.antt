@@ -1,12 +1,13 @@
 -- The samples of document 01 that it marks with *, and others that pin what those leave open, as rows of one list: what is asked, computed to
--- numbers, and the right numbers. One theorem: every row is right. Assumes nothing.
-use Prim.Native.Nat.{ℕ}
-use mathlib.Core.Path.{_≡_, refl}
+-- numbers, and the right numbers. One theorem: every row is right. And the same for `still`. Assumes nothing.
+use Prim.Native.Nat.{ℕ, _-_}
+use native.Mathlib.Omega.{arith}
+use mathlib.Core.Path.{_≡_, refl, ap}
 use mathlib.Core.Bool.{true}
-use mathlib.Core.List.{List, [], _∷_, _++_}
+use mathlib.Core.List.{List, [], _∷_, _++_, map}
 use lib.IntN.{pos}
-use lib.ListN.{set, replicate}
-use Rattle.octets.specs.Bytes.{xorOn}
+use lib.ListN.{length, set, replicate}
+use Rattle.octets.specs.Bytes.{byteAt, xorOn}
 use Rattle.octets.proofs.Samples.{Sample, sample, allRight}
 use Rattle.memory.specs.Memory.{flight, formatOf, fills, tablesWrong, rangeOf, rangeAt}
 use Rattle.sequence.specs.declared.RasterWords.{RasterWords}
@@ -20,9 +21,13 @@ use Rattle.sequence.proofs.SampleTables.{seqs, lists, ends, calls, lineList, fi
 use Rattle.runner.specs.declared.Runner.{Runner}
 use Rattle.runner.specs.Judge.{pathRows, rasterRows, runRows, exposeRows, loopRows, closeRows, judged, judge}
 use Rattle.runner.specs.Step.{aborted, entered, begun, advances, exposed, looped, delayed, called, ended, act, stepIn, stepOf}
+use Rattle.survey.specs.declared.Standing.{Standing}
+use Rattle.survey.specs.declared.Standing.the-variants.{Unpassed, Same, Changed}
 use Rattle.survey.specs.Walk.{walked, walk, checkOne}
 use Rattle.survey.specs.Chain.{onward, follow, chainOf, checkRows, checkOf}
-use Rattle.survey.specs.Report.{reasonOf, reasonShown}
+use Rattle.survey.specs.Frame.{listsUsed}
+use Rattle.survey.specs.Still.{inEntries, changedIn, changedAt, firstOf, standingShown, stillOf}
+use Rattle.survey.specs.Report.{EndingShown, endingShown, reasonOf, reasonShown}
 use Rattle.survey.proofs.Samples.{toldNumbers}
 use Rattle.status.specs.declared.Log.{Log}
 use Rattle.unit.specs.declared.Unit.{Unit as ControlUnit}
@@ -31,9 +36,10 @@ use Rattle.unit.specs.State.{powerOn, runsWrong, rangeTests, outOfRange, moded,
 use Rattle.telecommand.specs.Packet.{telecommandOf}
 use Rattle.unit.specs.Packet.{ownRows, lentWrong, packetRows, codeOf}
 use Rattle.unit.specs.Status.{statusOf}
-use Rattle.unit.specs.Answer.{effect, obeyedUnit, reply, refusedUnit, unitAfter, replyOf, answerOf}
+use Rattle.unit.specs.Answer.{effect, obeyedUnit, reply, refusedUnit, unitAfter, replyOf, answerOf, seqsAfter, listsAfter}
 use Rattle.promises.specs.Runs.{positionsSeen, sightsOf}
-use Rattle.promises.specs.Demand3.{chainPlan, exposedPositions}
+use Rattle.promises.specs.Library.{ours}
+use Rattle.promises.specs.Demand3.{world, packet, afterAll, chainPlan, exposedPositions}
 
 -- ── what is asked
 -- the check of sequence 0: how it ends (1 ends, 3 fault) with code, sequence and place; steps, exposures, and the listed sequences
@@ -70,7 +76,7 @@ abbrev answerNumbers : Answer → List ℕ
 answerNumbers a = a .code ∷ a .size ∷ logNumbers (a .unit .ledger .log)
 
 abbrev sentTo : ControlUnit → ℕ → List ℕ → List ℕ
-sentTo unit kind packet = answerNumbers (answerOf (formatOf kind) unit 0 (seqs []) (lists []) (seqs []) packet)
+sentTo unit kind bytes = answerNumbers (answerOf (formatOf kind) unit 0 (seqs []) (lists []) (seqs []) bytes)
 
 abbrev sent : List ℕ → List ℕ
 sent = sentTo powerOn 0
@@ -81,11 +87,11 @@ inManual = moded 2 powerOn
 
 -- the bytes that answer it
 abbrev repliedTo : List ℕ → List ℕ
-repliedTo packet = replyOf flight powerOn 0 (seqs []) (lists []) (seqs []) packet
+repliedTo bytes = replyOf flight powerOn 0 (seqs []) (lists []) (seqs []) bytes
 
 -- ── the rows
 -- document 01's line list with another checksum
-abbrev badSum : List ℕ
+abbrev pub badSum : List ℕ
 badSum = set (lineList 1) 3 0x6F
 
 -- document 01's raster sequence with these science flags, and its line list with another low byte of its window's header; each with its checksum
@@ -192,3 +198,84 @@ samples =
 pub samples-right : allRight samples ≡ true
 unfolding xorOn fills tablesWrong rangeOf rangeAt limit lengthGood xorGood headerRows headerOf sizeOf decoded noneThere commandAt sizeAt starts startsOf among exposesBetween firstExposure targetGood rasterAt flagsGood markMissing someStrays checksumOf marked marksOf listCard pathRows rasterRows runRows exposeRows loopRows closeRows judged judge aborted entered begun advances exposed looped delayed called ended act stepIn stepOf walked walk checkOne onward follow chainOf checkRows checkOf powerOn runsWrong rangeTests outOfRange moded selected telecommandOf ownRows lentWrong packetRows codeOf statusOf effect obeyedUnit reply refusedUnit unitAfter replyOf answerOf sightsOf
 samples-right = refl
+
+-- ── whether a pass still stands, and what the check and the run tell then
+-- of sequence n, over the tables of then and those of now: 0 there was none, with how the check ended, its code, sequence and place; 1 it stands; 2
+-- with the lowest address that was touched
+abbrev endingNumbers : EndingShown → List ℕ
+endingNumbers e = e .number ∷ e .code ∷ e .sequence ∷ e .place ∷ []
+
+abbrev standingNumbers : Standing → List ℕ
+standingNumbers (Unpassed ending) = standingShown (Unpassed ending) .number ∷ endingNumbers (endingShown ending)
+standingNumbers Same = standingShown Same .number ∷ []
+standingNumbers (Changed a) = standingShown (Changed a) .number ∷ standingShown (Changed a) .address ∷ []
+
+abbrev standsIn : ℕ → ℕ → List ℕ → List ℕ → List ℕ → List ℕ → List ℕ
+standsIn kind n sequence list sequence′ list′ = standingNumbers (stillOf (formatOf kind) (seqs sequence) (lists list) (seqs sequence′) (lists list′) n)
+
+abbrev stands : List ℕ → List ℕ → List ℕ → List ℕ → List ℕ
+stands = standsIn 0 0
+
+-- bytes and zeros after them, as many as this in all, and other bytes after those
+abbrev followed : ℕ → List ℕ → List ℕ → List ℕ
+followed size bytes others = bytes ++ replicate (size - length bytes) 0 ++ others
+
+-- sequence 0 calls 1, in entries of this size
+abbrev pub callsOn : ℕ → List ℕ → List ℕ
+callsOn size called = followed size (calls 0x01 0x94) called
+
+-- document 01's raster sequence and line list, with another byte past the length of each, and another sequence and line list after it
+abbrev theRasterElse : List ℕ
+theRasterElse = followed 128 (theRaster ++ (0xAA ∷ [])) (ends 0x92)
+
+abbrev lineListElse : List ℕ
+lineListElse = followed 164 (lineList 1 ++ (0xAA ∷ [])) (lineList 1)
+
+-- the check of sequence 0 after these packets, sent one after another to the unit at power-on
+abbrev checkedAfter : List (List ℕ) → List ℕ → List ℕ → List ℕ
+checkedAfter packets sequence list =
+    let v = afterAll {F = flight} ours (map (λ bytes. packet (seqs []) 0 bytes) packets) (world powerOn (seqs sequence) (lists list)) in toldNumbers (checkOf flight (v .seqs) (v .lists) 0)
+
+-- an uplink of one byte to sequence 0, at place 4
+abbrev uplinked : ℕ → List ℕ
+uplinked b = 0xE7 ∷ 0x07 ∷ 0x00 ∷ 0x04 ∷ 0x01 ∷ b ∷ []
+
+abbrev standings : List Sample
+standings =
+    -- over tables that differ past the lengths, in a sequence that is not listed and in a line list that is not used
+    sample (stands theRaster (lineList 1) theRasterElse lineListElse) (1 ∷ [])
+    -- there the check tells what it told (16 steps, 6 exposures), the run shows what it showed, and a fault has its place, code and reason
+    ∷ sample (checked theRasterElse lineListElse) (checked theRaster (lineList 1))
+    ∷ sample (seenIn 16 theRasterElse lineListElse) (100 ∷ 110 ∷ 120 ∷ 100 ∷ 110 ∷ 120 ∷ [])
+    ∷ sample (checkedWhy theRasterElse (set lineListElse 3 0x6F)) (checkedWhy theRaster badSum)
+    -- after uplinks: a byte given its old value again, and sequence 5; the byte left as it is
+    ∷ sample (checkedAfter (uplinked 0x00 ∷ uplinked 0x90 ∷ (0xE7 ∷ 0x07 ∷ 0x02 ∷ 0x80 ∷ 0x06 ∷ ends 0x92) ∷ []) theRaster (lineList 1)) (1 ∷ 0 ∷ 0 ∷ 0 ∷ 16 ∷ 6 ∷ 0 ∷ [])
+    ∷ sample (checkedAfter (uplinked 0x00 ∷ []) theRaster (lineList 1)) (3 ∷ 2 ∷ 0 ∷ 0 ∷ 0 ∷ 0 ∷ 0 ∷ [])
+    -- the lowest byte that is another, its sequence's last, its line list's last; the length of the sequence that is called; the call of a chain that
+    -- returns
+    ∷ sample (stands theRaster (lineList 1) (set (set theRaster 8 0x65) 0x21 0xC1) badSum) (2 ∷ 0x070008 ∷ [])
+    ∷ sample (stands theRaster (lineList 1) (set theRaster 0x21 0xC1) badSum) (2 ∷ 0x070021 ∷ [])
+    ∷ sample (stands theRaster (lineList 1) theRasterElse (set lineListElse 0x13 0x21)) (2 ∷ 0x074013 ∷ [])
+    ∷ sample (stands (callsOn 128 (ends 0x92)) [] (callsOn 128 (set (ends 0x92) 0 0x07)) []) (2 ∷ 0x070080 ∷ [])
+    ∷ sample (stands (calls 0x00 0x95) [] (callsOn 128 (ends 0x92)) []) (2 ∷ 0x070005 ∷ [])
+    -- a fault then; number 128: 7; tables of now that are too short, also for number 128, and tables of then: 16
+    ∷ sample (stands (ends 0x93) [] (ends 0x92) []) (0 ∷ 3 ∷ 2 ∷ 0 ∷ 0 ∷ [])
+    ∷ sample (standsIn 0 128 (ends 0x92) [] (ends 0x92) []) (0 ∷ 0 ∷ 7 ∷ 0 ∷ 0 ∷ [])
+    ∷ sample (standingNumbers (stillOf flight (seqs (ends 0x92)) (lists []) (ends 0x92) (lists []) 128)) (0 ∷ 0 ∷ 16 ∷ 0 ∷ 0 ∷ [])
+    ∷ sample (standingNumbers (stillOf flight (ends 0x92) (lists []) (seqs (ends 0x92)) (lists []) 0)) (0 ∷ 0 ∷ 16 ∷ 0 ∷ 0 ∷ [])
+    -- the old unit: the sequence that is called stands at 0x070100; number 64 is 7; kind 2 is 16
+    ∷ sample (standsIn 1 0 (callsOn 256 (ends 0x92)) [] (callsOn 256 (ends 0x93)) []) (2 ∷ 0x070105 ∷ [])
+    ∷ sample (standsIn 1 64 (ends 0x92) [] (ends 0x92) []) (0 ∷ 0 ∷ 7 ∷ 0 ∷ 0 ∷ [])
+    ∷ sample (standsIn 2 0 (ends 0x92) [] (ends 0x92) []) (0 ∷ 0 ∷ 16 ∷ 0 ∷ 0 ∷ [])
+    ∷ []
+
+pub standings-right : allRight standings ≡ true
+unfolding xorOn fills tablesWrong limit lengthGood xorGood headerRows headerOf sizeOf decoded noneThere commandAt sizeAt starts startsOf among exposesBetween firstExposure targetGood rasterAt flagsGood markMissing someStrays checksumOf marked marksOf listCard pathRows rasterRows runRows exposeRows loopRows closeRows judged judge walked walk checkOne onward follow chainOf checkRows checkOf listsUsed inEntries changedIn changedAt firstOf stillOf aborted entered begun advances exposed looped ended act stepIn stepOf sightsOf rangeOf rangeAt powerOn runsWrong rangeTests outOfRange telecommandOf ownRows lentWrong packetRows codeOf effect obeyedUnit unitAfter answerOf seqsAfter listsAfter
+standings-right = refl
+
+-- the tables over which a pass stands in the first row are others
+pub tables-differ : (seqs theRasterElse ≡ seqs theRaster → ⊥) × (lists lineListElse ≡ lists (lineList 1) → ⊥)
+tables-differ = (
+  λ e. let z : _≡_ {A = ℕ} 0xAA 0 = ap (λ (t : List ℕ). byteAt t 0x22) e in omega arith,
+  λ e. let z : _≡_ {A = ℕ} 0xAA 0 = ap (λ (t : List ℕ). byteAt t 0x14) e in omega arith,
+)

@@ -1,5 +1,5 @@
 -- The demands, for the code: the contracts are equations with what the demands name. Assumes nothing.
-use Rattle.promises.specs.TheCode.{PowerOnIs, PacketIs, StepIs, RunIs, CheckIs, WindowCodeIs, WindowIs, OutOfRangeIs, TelecommandIs}
+use Rattle.promises.specs.TheCode.{PowerOnIs, PacketIs, StepIs, RunIs, CheckIs, StillIs, WindowCodeIs, WindowIs, OutOfRangeIs, TelecommandIs}
 
 pub power-on-is : PowerOnIs
 power-on-is κs args result exit learnt = learnt
@@ -15,6 +15,9 @@ run-is κs args result exit learnt = learnt
 
 pub check-is : CheckIs
 check-is κs args result exit learnt = learnt
+
+pub still-is : StillIs
+still-is κs args result exit learnt = learnt
 
 pub window-code-is : WindowCodeIs
 window-code-is κs args result exit learnt = learnt

@@ -268,6 +268,9 @@ EndsOrReturns e = Ends e ⊎ ComesBack e
 abbrev pub HasFault : ℕ → ℕ → ℕ → Ending → Type 0
 HasFault code n place e = endingShown e ≡ endingAs 3 code n place
 
+abbrev pub IsFault : Ending → Type 0
+IsFault e = (code : ℕ) × (n : ℕ) × (place : ℕ) × HasFault code n place e
+
 -- How a run that the check passed goes on after the last command listed. A chain that ends has stopped: every step is idle. One that returns
 -- enters the sequence that the last one calls, a listed one.
 abbrev pub GoesOn : Format → List ℕ → Ending → List ℕ → List Outcome → Type 0

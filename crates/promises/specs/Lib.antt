@@ -7,6 +7,7 @@ pub mod Library
 pub mod Demand3
 pub mod Flags
 pub mod EachCheck
+pub mod Stays
 pub mod Sent
 pub mod Demand1
 pub mod Demand2

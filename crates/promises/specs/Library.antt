@@ -8,7 +8,9 @@ use Rattle.sequence.specs.Env.{Env}
 use Rattle.runner.specs.declared.Runner.{Runner}
 use Rattle.runner.specs.declared.Stepped.{Stepped}
 use Rattle.runner.specs.Step.{stepOf}
+use Rattle.survey.specs.declared.Standing.{Standing}
 use Rattle.survey.specs.Chain.{Told, checkOf}
+use Rattle.survey.specs.Still.{stillOf}
 use Rattle.unit.specs.declared.Unit.{Unit as ControlUnit}
 use Rattle.unit.specs.declared.UnitStep.{UnitStep}
 use Rattle.unit.specs.declared.Answer.{Answer}
@@ -31,6 +33,8 @@ pub record Library : Type 0 where
   pub runs : Env → List ℕ → Runner → Stepped
   -- what the check tells of the chain that begins at a sequence, in tables of a format: its names, how it ends, its steps and its exposures
   pub checks : Format → List ℕ → List ℕ → ℕ → Told
+  -- whether the check's pass over tables of a format stands over others, those of now
+  pub still : Format → List ℕ → List ℕ → List ℕ → List ℕ → ℕ → Standing
   -- what the desk is answered that asks tables of a format for an address and a length: the code, and the part that it is handed
   pub windowCode : Format → List ℕ → List ℕ → ℕ → ℕ → ℕ
   pub windowPart : Format → List ℕ → List ℕ → ℕ → ℕ → List ℕ
@@ -47,6 +51,7 @@ ours =
       steps = unitStep;
       runs = stepOf;
       checks = checkOf;
+      still = stillOf;
       windowCode = windowCode;
       windowPart = windowPart;
     }

@@ -29,6 +29,7 @@ use Rattle.runner.specs.declared.Runner.{Runner}
 use Rattle.runner.specs.declared.Stepped.{Stepped}
 use Rattle.survey.proofs as survey
 use Rattle.survey.specs.declared.Report.{Report}
+use Rattle.survey.specs.declared.Standing.{Standing}
 use Rattle.survey.specs.declared.Walked.{Walked}
 use Rattle.telecommand.proofs as telecommand
 use Rattle.status.proofs as status
@@ -97,6 +98,9 @@ OneMemoryPlaceNumber = One ℕ memory.Place.number.Kinds.ps memory.Place.number.
 
 abbrev pub OneMemoryAddressOf : Type 0
 OneMemoryAddressOf = One Addressed memory.Address.of.Kinds.ps memory.Address.of.Kinds.r memory.Address.of.Reads.Learnt (λ κs r e. r)
+
+abbrev pub OneMemoryAddressNumber : Type 0
+OneMemoryAddressNumber = One ℕ memory.Address.number.Kinds.ps memory.Address.number.Kinds.r memory.Address.number.Reads.Learnt (λ κs r e. r)
 
 abbrev pub OneMemoryAddressRange : Type 0
 OneMemoryAddressRange = One Range memory.Address.range.Kinds.ps memory.Address.range.Kinds.r memory.Address.range.Reads.Learnt (λ κs r e. r)
@@ -229,6 +233,9 @@ OneSurveyCheckOne = One Walked survey.check_one.Kinds.ps survey.check_one.Kinds.
 
 abbrev pub OneSurveyReasonShown : Type 0
 OneSurveyReasonShown = One ReasonNumbers survey.Reason.shown.Kinds.ps survey.Reason.shown.Kinds.r survey.Reason.shown.Reads.Learnt (λ κs r e. r)
+
+abbrev pub OneSurveyStill : Type 0
+OneSurveyStill = One Standing survey.still.Kinds.ps survey.still.Kinds.r survey.still.Reads.Learnt (λ κs r e. r)
 
 -- ── telecommand
 abbrev pub OneTelecommandTelecommandOf : Type 0

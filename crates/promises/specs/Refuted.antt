@@ -1,10 +1,11 @@
 -- Wrong libraries, and the demand that each of them does not keep. Each is a whole class: of everything that is not said of it here nothing is
 -- supposed. Each statement in plain words and then in symbols; proofs/Refuted has its proof, under its name (`refusing-fails : RefusingFails`).
-use Prim.Native.Nat.{ℕ, _+_, _≤_, _<_}
+use Prim.Native.Nat.{ℕ, _+_, _-_, _≤_, _<_}
 use mathlib.Core.Path.{_≡_}
 use mathlib.Core.Bool.{true, false, cond}
 use mathlib.Core.List.{List, [], _∷_}
 use lib.Dec.{eqb}
+use lib.ListN.{length, take}
 use Rattle.memory.specs.declared.Format.{Format}
 use Rattle.memory.specs.Memory.{flight, entryOf}
 use Rattle.sequence.specs.declared.ListCard.the-variants.{Good}
@@ -32,7 +33,8 @@ use Rattle.promises.specs.Sent.{Sent, code, TablesKept}
 use Rattle.promises.specs.Runs.{isA, ShownAs, Showing, idle}
 use Rattle.promises.specs.Demand2.{AcceptedExactly, ObeyedExactly, EffectE7, StepTakes, IdleExactly}
 use Rattle.promises.specs.EachStep.{EnterStep, CallMade}
-use Rattle.promises.specs.Demand3.{World, Reached, modeOf, EndsOrReturns, HasFault, Demand3}
+use Rattle.promises.specs.Demand3.{World, Reached, modeOf, EndsOrReturns, IsFault, Demand3}
+use Rattle.promises.specs.Stays.{WithinLength, OfSequence, RestsOn, StaysIf}
 
 -- Our library with these six functions in the place of ours: the answers, the two tables left, the unit's step, the interpreter's step, the check.
 abbrev pub changed : (Format → ControlUnit → ℕ → List ℕ → List ℕ → List ℕ → List ℕ → Answer)
@@ -48,6 +50,7 @@ changed answers seqsLeft listsLeft steps runs checks =
       steps = steps;
       runs = runs;
       checks = checks;
+      still = ours .still;
       windowCode = ours .windowCode;
       windowPart = ours .windowPart;
     }
@@ -125,9 +128,6 @@ PassingAllFails = (f : Format → List ℕ → List ℕ → ℕ → Told) → ((
     → Demand3 flight (withCheck f) → ⊥
 
 -- "a check that faults all", whatever code, sequence and place it gives
-abbrev pub IsFault : Ending → Type 0
-IsFault e = (code : ℕ) × (n : ℕ) × (place : ℕ) × HasFault code n place e
-
 abbrev pub FaultingAllFails : Type 0
 FaultingAllFails = (f : Format → List ℕ → List ℕ → ℕ → Told) → ((seqs lists : List ℕ) (n : ℕ) → IsFault (f flight seqs lists n .ending))
     → Demand3 flight (withCheck f) → ⊥
@@ -246,3 +246,15 @@ pub record MisreadRefuted : Type 0 where
 abbrev pub CheckDecided : Format → Type 0
 CheckDecided F = (f : Format → List ℕ → List ℕ → ℕ → Told) → Demand3 F (withCheck f) → (w : World F) → Reached ours w → modeOf w ≡ 2 → (n : ℕ) → n ≤ F .last
     → f F (w .seqs) (w .lists) n ≡ ours .checks F (w .seqs) (w .lists) n
+
+-- ── 8. "A pass stays a pass" (Stays): no less will do for its premise
+
+-- What a pass rests on, of all listed sequences but the last.
+abbrev pub AllButLast : Format → List ℕ → List ℕ → List ℕ → ℕ → Type 0
+AllButLast F seqs lists names a = RestsOn WithinLength F seqs lists (take (length names - 1) names) a
+
+pub record PremiseRefuted : Type 0 where
+  -- "no byte of a listed sequence", and a byte of a line list that it uses, so that the list's checksum is wrong: what passed is a fault with code 7
+  pub without-line-lists : StaysIf EndsOrReturns (OfSequence WithinLength) flight ours → ⊥
+  -- no byte of the sequence that calls, and one of the sequence that is called, so that its checksum is wrong: what passed is a fault with code 2
+  pub without-last : StaysIf EndsOrReturns AllButLast flight ours → ⊥

@@ -52,6 +52,11 @@ abbrev pub CheckIs : Type 0
 CheckIs = Called survey.check.Kinds.ps survey.check.Kinds.r survey.check.Reads.Learnt
     (λ κs (kind, (seqs, (lists, (number, _)))) result exit. result ≡ reportOf (ours .checks (formatOf kind) (now seqs) (now lists) number))
 
+-- `still`
+abbrev pub StillIs : Type 0
+StillIs = Called survey.still.Kinds.ps survey.still.Kinds.r survey.still.Reads.Learnt
+    (λ κs (kind, (seqs, (lists, (seqs2, (lists2, (number, _)))))) result exit. result ≡ ours .still (formatOf kind) (now seqs) (now lists) (now seqs2) (now lists2) number)
+
 -- `window_code` and `window`
 abbrev pub WindowCodeIs : Type 0
 WindowCodeIs = Called unit.window_code.Kinds.ps unit.window_code.Kinds.r unit.window_code.Reads.Learnt

@@ -9,7 +9,7 @@ use mathlib.Core.Logic.{_↔_, _⊎_, ⊎-elim, inl, inr}
 use lib.Dec.{T, ltb, eqb}
 use borrow.Author.Tests.{ltb-false, eqb-true, eq-eqb, ne-eqb}
 use Rattle.octets.specs.Rows.{Row, row, firstCode, NoneHolds, FirstBears, coded}
-use Rattle.octets.proofs.Bools.{and-T}
+use Rattle.octets.proofs.Bools.{and-T, clash}
 use Rattle.octets.proofs.Laws.{none-holds, no-code, first-bears, bears-first}
 use Rattle.sequence.specs.declared.Command.{Command}
 use Rattle.sequence.specs.declared.Command.the-variants.{RunRaster, Expose, LoopBack, CallSequence, Terminate, Delay, Nothing, Unknown, Unfit}
@@ -59,9 +59,6 @@ module _ (rs : List Row) (a : Act) (plain : Plain a) where
               λ f. ap (λ (k : ℕ). unless k a) (bears-first rs c f) ∙ ap (λ (b : Bool). cond b a (Refused c)) (ne-eqb c 0 (λ z. omega arith)),
             );
       }
-
-clash : _≡_ {A = ℕ} 0 1 → ⊥
-clash z = omega arith
 
 pub loop-coded : (text : List ℕ) (p t : ℕ) (o : Opened) → T (coded (loopRows text p t o))
 unfolding loopRows

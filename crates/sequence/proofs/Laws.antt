@@ -53,7 +53,7 @@ module _ (P : Command → Type 0) where
   each n [] f = tt
   each n (k ∷ ks) f = (f k, each n ks f)
 
-  of-number : (n : ℕ) (ks : List Command) → (Each (λ k. ⊥) n ks → P Unknown) → Each P n ks → P (commandIn n ks)
+  pub of-number : (n : ℕ) (ks : List Command) → (Each (λ k. ⊥) n ks → P Unknown) → Each P n ks → P (commandIn n ks)
   of-number n [] u e = u tt
   of-number n (k ∷ ks) u (f, e) =
       let m = numberOf k in
@@ -182,6 +182,10 @@ raster-stands text p =
   where
     Stands : Command → Type 0
     Stands k = isRunRaster k ≡ cond (eqb (sizeOf (numberOf k)) 0) false (eqb (byteAt text p) (numberOf RunRaster))
+
+-- no command stands at the checksum
+pub none-last : (text : List ℕ) → sizeAt text (limit text) ≡ 0
+none-last text = ⊎-elim (λ z. z) (λ w. omega arith) (size-whole text (limit text))
 
 -- ── the starts counted on from a place
 module _ (text : List ℕ) where

@@ -5,5 +5,7 @@ pub mod Flags
 pub mod Paths
 pub mod Hops
 pub mod Targets
+pub mod Within
+pub mod Lengths
 pub mod SampleTables
 pub mod Samples

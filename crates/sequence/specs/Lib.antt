@@ -3,3 +3,4 @@ pub mod Starts
 pub mod Raster
 pub mod LineList
 pub mod Env
+pub mod Within

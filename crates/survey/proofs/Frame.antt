@@ -1,18 +1,17 @@
--- A check depends on the bytes of the sequences that it lists and of the line lists that those use, and on nothing else of the tables.
+-- A check depends on the bytes that are read of the sequences that it lists and of the line lists that those use, and on nothing else of the tables.
 -- Assumes nothing.
-use Prim.Native.Nat.{ℕ, zero, suc, _+_, _*_, _≤_, _<_}
+use Prim.Native.Nat.{ℕ, zero, suc, _+_, _≤_}
 use native.Mathlib.Omega.{arith}
-use mathlib.Core.Path.{_≡_, refl, sym, ap, _∙_}
+use mathlib.Core.Path.{_≡_, refl, ap, _∙_}
 use mathlib.Core.Bool.{Bool, true, false, cond, or-true, false≢true}
 use mathlib.Core.List.{List, [], _∷_, _++_}
 use lib.Dec.{ltb, eqb}
-use lib.ListN.{length, getD, take, drop, length-take, length-drop}
-use lib.Seq.{getD-take, getD-drop, ext-getD}
+use lib.ListN.{length}
 use borrow.Author.Tests.{ltb-false, eqb-true, eq-eqb}
 use Rattle.octets.specs.Rows.{firstCode}
 use Rattle.octets.proofs.Bools.{by-test}
 use Rattle.memory.specs.declared.Format.{Format}
-use Rattle.memory.specs.Memory.{tablesWrong, entryOf}
+use Rattle.memory.specs.Memory.{tablesWrong}
 use Rattle.sequence.specs.declared.Command.{Command}
 use Rattle.sequence.specs.declared.Command.the-variants.{RunRaster, Expose, LoopBack, CallSequence, Terminate, Delay, Nothing, Unknown, Unfit}
 use Rattle.sequence.specs.declared.Header.{Header}
@@ -22,18 +21,22 @@ use Rattle.sequence.specs.Text.{numberOf, sizeOf, sizeAt, headerOf, commandAt, 
 use Rattle.sequence.specs.Starts.{among, starts, startsOf, rastersAmong}
 use Rattle.sequence.specs.Raster.{rasterAt}
 use Rattle.sequence.specs.declared.ListCard.{ListCard}
-use Rattle.sequence.specs.LineList.{listCard, cardShown}
+use Rattle.sequence.specs.LineList.{cardShown}
 use Rattle.sequence.specs.Env.{cardsOf, envOf}
+use Rattle.sequence.specs.Within.{Alike}
+use Rattle.sequence.proofs.Within.{header-alike, size-alike, starts-alike, raster-alike, card-alike}
 use Rattle.runner.specs.declared.Opened.{Opened}
-use Rattle.runner.specs.declared.Opened.the-variants.{Shut}
+use Rattle.runner.specs.declared.Opened.the-variants.{Shut, Open}
 use Rattle.runner.specs.declared.Act.{Act}
 use Rattle.runner.specs.declared.Act.the-variants.{Refused, Opens, Exposes, Loops, Waits, Calls, Ends}
 use Rattle.runner.specs.Judge.{repeatBegun, pathRows, flagRows, rasterRows, runRows, judged, judge}
 use Rattle.runner.proofs.Exactly.{seven}
+use Rattle.runner.proofs.Within.{judge-alike, OnRaster, Tells, tells}
 use Rattle.survey.specs.declared.Closing.the-variants.{Terminates, CallsOn}
 use Rattle.survey.specs.Walk.{Finding, passes, faults, closed, paused, oneMore, walked, walk, rounds, checkedBy, checkOne, findingOf}
 use Rattle.survey.specs.Chain.{Told, front, onward, follow, chainOf, checkBy, checkRows, checkOf}
 use Rattle.survey.specs.Frame.{listsNamed, listsUsed, Agree}
+use Rattle.survey.proofs.Listing.{among-first, among-later}
 
 -- ── a judgement reads the card of one line list at most: that of the run raster at its place
 module _ (cards cards′ : ℕ → ListCard) where
@@ -89,20 +92,8 @@ pub none-judge : (cards : ℕ → ListCard) (text : List ℕ) (p : ℕ) (o : Ope
 unfolding judge sizeAt
 none-judge cards text p o e = none-judged cards text p o (commandAt text p) e
 
--- ── the walk of a text reads the line lists of the run rasters at its starts
-module _ (cards cards′ : ℕ → ListCard) (text : List ℕ) where
-  -- an act comes to the same, of a 7 with the card of the line list that is named there
-  walked-same : (go go′ : ℕ → Opened → Finding) (p : ℕ) → ((o : Opened) → go′ (p + sizeAt text p) o ≡ go (p + sizeAt text p) o)
-      → (o : Opened) (a : Act) → (a ≡ Refused 7 → cards′ (rasterAt text p .list) ≡ cards (rasterAt text p .list)) → walked cards′ text go′ p o a ≡ walked cards text go p o a
-  unfolding walked
-  walked-same go go′ p h o (Refused code) s = by-test (eqb code 7) (λ e. rw (s (ap Refused (eqb-true code 7 e)))) (λ e. rw e)
-  walked-same go go′ p h o Opens s = h _
-  walked-same go go′ p h o (Exposes r) s = h (oneMore o)
-  walked-same go go′ p h o (Loops t) s = ap (closed text p t o) (h Shut)
-  walked-same go go′ p h o Waits s = ap (paused text p o) (h o)
-  walked-same go go′ p h o (Calls m) s = refl
-  walked-same go go′ p h o Ends s = refl
-
+-- ── the starts of a text, and the line lists that run rasters there name
+module _ (text : List ℕ) where
   -- a start is the first one, or one of those after it
   start-here : (f p : ℕ) → eqb (sizeAt text p) 0 ≡ false → among p (starts text (suc f) p) ≡ true
   unfolding among starts
@@ -111,19 +102,6 @@ module _ (cards cards′ : ℕ → ListCard) (text : List ℕ) where
   start-later : (f p q : ℕ) → eqb (sizeAt text p) 0 ≡ false → among q (starts text f (p + sizeAt text p)) ≡ true → among q (starts text (suc f) p) ≡ true
   unfolding among starts
   start-later f p q e h = rw (e, h) (or-true (eqb p q))
-
-  walk-same : (f p : ℕ) → ((q : ℕ) → among q (starts text f p) ≡ true → SameAt cards cards′ text q)
-      → (o : Opened) → walk cards′ text f p o ≡ walk cards text f p o
-  unfolding walk walked
-  walk-same zero p h o = refl
-  walk-same (suc f) p h o =
-      by-test (eqb (sizeAt text p) 0)
-      (λ e. let z = eqb-true (sizeAt text p) 0 e in rw (none-judge cards text p o z, none-judge cards′ text p o z))
-      (λ e.
-      let here = h p (start-here f p e) in
-      rw (same-judge cards cards′ text p here o)
-      (walked-same _ _ p (walk-same f (p + sizeAt text p) (λ q s. h q (start-later f p q e s))) o (judge cards text p o)
-      (λ s. let (run, low, why) = seven cards text p o s in here run low)))
 
   -- a run raster among some places names one of their line lists
   names : (p : ℕ) (ps : List ℕ) → among p ps ≡ true → commandAt text p ≡ RunRaster → among (rasterAt text p .list) (listsNamed text (rastersAmong text ps)) ≡ true
@@ -136,15 +114,56 @@ module _ (cards cards′ : ℕ → ListCard) (text : List ℕ) where
       let rest = names p qs (rw e at a) r in
       by-test (isRunRaster (commandAt text q)) (λ t. rw (t, rest) (or-true (eqb (rasterAt text q .list) (rasterAt text p .list)))) (λ t. rw t rest))
 
+-- ── the walk of a text reads what is read of it, and the line lists of the run rasters at its starts
+module _ (cards cards′ : ℕ → ListCard) {text text′ : List ℕ} (a : Alike text text′) where
+  -- an item's steps and exposures come from its run raster
+  closed-same : (q t : ℕ) (o : Opened) → OnRaster text o → (found : Finding) → closed text′ q t o found ≡ closed text q t o found
+  closed-same q t Shut h found = refl
+  closed-same q t (Open r c k) h (passes n x is e d) = rw (size-alike a (r .0), starts-alike a, raster-alike a (r .0) h)
+  closed-same q t (Open r c k) h (faults f reason) = refl
+
+  -- and a pause has one step in any text
+  paused-same : (p : ℕ) (o : Opened) (found : Finding) → paused text′ p o found ≡ paused text p o found
+  paused-same p Shut (passes n x is e d) = refl
+  paused-same p Shut (faults f reason) = refl
+  paused-same p (Open r c k) found = refl
+
+  -- an act comes to the same, of a 7 with the card of the line list that is named there
+  walked-same : (go go′ : ℕ → Opened → Finding) (p : ℕ) → ((o : Opened) → go′ (p + sizeAt text p) o ≡ go (p + sizeAt text p) o)
+      → (o : Opened) (x : Act) → Tells text p o x → (x ≡ Refused 7 → cards′ (rasterAt text′ p .list) ≡ cards (rasterAt text p .list))
+      → walked cards′ text′ go′ p o x ≡ walked cards text go p o x
+  unfolding walked
+  walked-same go go′ p h o (Refused code) w s = by-test (eqb code 7) (λ e. rw (s (ap Refused (eqb-true code 7 e)))) (λ e. rw e)
+  walked-same go go′ p h o Opens w s = rw (size-alike a p) (h _)
+  walked-same go go′ p h o (Exposes r) w s = rw (size-alike a p) (h (oneMore o))
+  walked-same go go′ p h o (Loops t) w s = rw (size-alike a p, h Shut) (closed-same p t o w _)
+  walked-same go go′ p h o Waits w s = rw (size-alike a p, h o) (paused-same p o _)
+  walked-same go go′ p h o (Calls m) w s = refl
+  walked-same go go′ p h o Ends w s = refl
+
+  walk-same : (f p : ℕ) → ((q : ℕ) → among q (starts text f p) ≡ true → SameAt cards cards′ text q)
+      → (o : Opened) → walk cards′ text′ f p o ≡ walk cards text f p o
+  unfolding walk walked
+  walk-same zero p h o = refl
+  walk-same (suc f) p h o =
+      by-test (eqb (sizeAt text p) 0)
+      (λ e. let z = eqb-true (sizeAt text p) 0 e in rw (none-judge cards text p o z, none-judge cards′ text′ p o (size-alike a p ∙ z)))
+      (λ e.
+      let here = h p (start-here text f p e) in
+      rw (judge-alike a cards′ p o, same-judge cards cards′ text p here o)
+      (walked-same _ _ p (walk-same f (p + sizeAt text p) (λ q s. h q (start-later text f p q e s))) o (judge cards text p o) (tells cards text p o)
+      (λ s. let (run, low, why) = seven cards text p o s in rw (raster-alike a p run) (here run low))))
+
   module _ (F : Format) (h : (k : ℕ) → k ≤ 47 → among k (listsUsed text) ≡ true → cards′ k ≡ cards k) where
-    by-same : (head : Header) → checkedBy (record { format = F; cards = cards′ }) text head ≡ checkedBy (record { format = F; cards = cards }) text head
+    by-same : (head : Header) → checkedBy (record { format = F; cards = cards′ }) text′ head ≡ checkedBy (record { format = F; cards = cards }) text head
     unfolding startsOf listsUsed
-    by-same (Repeats q) = ap (rounds F q) (walk-same (length text) 4 (λ p s r b. h _ b (names p (startsOf text) s r)) Shut)
+    by-same (Repeats q) = rw (a .long) (ap (rounds F q) (walk-same (length text) 4 (λ p s r b. h _ b (names text p (startsOf text) s r)) Shut))
     by-same (Bad f) = refl
 
-    pub one-same : checkOne (record { format = F; cards = cards′ }) text ≡ checkOne (record { format = F; cards = cards }) text
+    -- the check of one sequence is that of one that is alike, where the line lists that it uses have the same cards
+    pub one-alike : checkOne (record { format = F; cards = cards′ }) text′ ≡ checkOne (record { format = F; cards = cards }) text
     unfolding checkOne
-    one-same = by-same (headerOf text)
+    one-alike = rw (header-alike a) (by-same (headerOf text))
 
 -- ── the chain reads what is found of the sequences that it lists
 abbrev Same : (ℕ → Finding) → (ℕ → Finding) → List ℕ → Type 0
@@ -152,12 +171,10 @@ Same found found′ names = (n : ℕ) → among n names ≡ true → found′ n 
 
 module _ (found found′ : ℕ → Finding) where
   first : (n : ℕ) (names : List ℕ) → Same found found′ (n ∷ names) → found′ n ≡ found n
-  unfolding among
-  first n names r = r n (rw (eq-eqb n n refl))
+  first n names r = r n (among-first n names)
 
   later : (n : ℕ) (names : List ℕ) → Same found found′ (n ∷ names) → Same found found′ names
-  unfolding among
-  later n names r m a = r m (rw a (or-true (eqb n m)))
+  later n names r m a = r m (among-later m n names a)
 
   module _ (go go′ : ℕ → Told) (n : ℕ) (ih : (m : ℕ) → Same found found′ (go m .names) → go′ m ≡ go m) where
     -- the first of the names is the sequence itself
@@ -204,7 +221,7 @@ module _ (F : Format) (seqs lists seqs′ lists′ : List ℕ) where
   chain-frame : (n : ℕ) → Agree F seqs lists seqs′ lists′ (chainOf F found n .names) → chainOf F found′ n ≡ chainOf F found n
   chain-frame n a =
       chain-same found found′ F n
-      (λ m l. ap (checkOne (envOf F lists′)) (a .entries m l) ∙ one-same (cardsOf lists) (cardsOf lists′) (entryOf F seqs m) F (λ k b u. ap listCard (a .used m k l b u)))
+      (λ m l. one-alike (cardsOf lists) (cardsOf lists′) (a .entries m l) F (λ k b u. card-alike (a .used m k l b u)))
 
   -- tables of the right sizes that agree in what a check of the first pair lists and uses have the same report
   pub frame : tablesWrong F seqs lists ≡ false → tablesWrong F seqs′ lists′ ≡ false
@@ -214,23 +231,3 @@ module _ (F : Format) (seqs lists seqs′ lists′ : List ℕ) where
       let code = firstCode (checkRows F seqs lists n) in
       let e : firstCode (checkRows F seqs′ lists′ n) ≡ code = rw (right′, right) in
       ap (λ (c : ℕ). checkBy c (chainOf F found′ n)) e ∙ by-code (eqb code 0) _ _ _ (chain-frame n) a
-
--- ── byte by byte
--- parts of one size at one place are the same where their bytes are
-pub part-same : (s s′ : List ℕ) (at size : ℕ) → length s′ ≡ length s
-    → ((k : ℕ) → k < size → getD s′ (at + k) 0 ≡ getD s (at + k) 0) → take size (drop at s′) ≡ take size (drop at s)
-part-same s s′ at size e h = ext-getD 0 _ _ (simp (length-take, length-drop) (omega arith)) (λ i l. byte i (omega (arith, simp (length-take, length-drop) at l)))
-  where
-    byte : (i : ℕ) → i < size → getD (take size (drop at s′)) i 0 ≡ getD (take size (drop at s)) i 0
-    byte i l = getD-take size (drop at s′) i 0 l ∙ getD-drop at s′ i 0 ∙ h i l ∙ sym (getD-take size (drop at s) i 0 l ∙ getD-drop at s i 0)
-
--- tables that have the same bytes in each of these sequences, and in each line list that one of them uses, agree
-pub agree-bytes : (F : Format) (seqs lists seqs′ lists′ names : List ℕ) → length seqs′ ≡ length seqs → length lists′ ≡ length lists
-    → ((n i : ℕ) → among n names ≡ true → i < F .size → getD seqs′ (n * F .size + i) 0 ≡ getD seqs (n * F .size + i) 0)
-    → ((n k i : ℕ) → among n names ≡ true → k ≤ 47 → among k (listsUsed (entryOf F seqs n)) ≡ true → i < 164 → getD lists′ (k * 164 + i) 0 ≡ getD lists (k * 164 + i) 0)
-    → Agree F seqs lists seqs′ lists′ names
-agree-bytes F seqs lists seqs′ lists′ names ls ll hs hl =
-    record {
-      entries = λ n a. part-same seqs seqs′ (n * F .size) (F .size) ls (λ i b. hs n i a b);
-      used = λ n k a b u. part-same lists lists′ (k * 164) 164 ll (λ i c. hl n k i a b u c);
-    }

@@ -2,8 +2,12 @@ pub mod Names
 pub mod Listing
 pub mod Reasons
 pub mod Frame
+pub mod Passing
 pub mod Counts
 pub mod Totals
 pub mod Samples
 pub mod Laws
+pub mod Search
+pub mod Changes
+pub mod Rests
 pub mod Chains

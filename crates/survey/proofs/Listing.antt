@@ -4,7 +4,7 @@ use Prim.Native.Nat.{ℕ, zero, suc, _≤_, _<_}
 use native.Mathlib.Decide.{ℕ-discrete}
 use native.Mathlib.Omega.{arith}
 use mathlib.Core.Path.{_≡_, refl, sym, ap}
-use mathlib.Core.Bool.{Bool, true, false, cond, _||_}
+use mathlib.Core.Bool.{Bool, true, false, cond, _||_, or-true}
 use mathlib.Core.List.{List, [], _∷_}
 use lib.Dec.{eqb}
 use borrow.Author.Tests.{eq-eqb, ne-eqb, eqb-true}
@@ -69,6 +69,10 @@ or-move false a b e = e
 pub among-first : (n : ℕ) (names : List ℕ) → among n (n ∷ names) ≡ true
 unfolding among
 among-first n names = rw (eq-eqb n n refl)
+
+pub among-later : (m n : ℕ) (names : List ℕ) → among m names ≡ true → among m (n ∷ names) ≡ true
+unfolding among
+among-later m n names a = rw a (or-true (eqb n m))
 
 pub among-case : {A : Type 0} (u n : ℕ) (names : List ℕ) → among u (n ∷ names) ≡ true → (n ≡ u → A) → (among u names ≡ true → A) → A
 unfolding among

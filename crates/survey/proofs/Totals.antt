@@ -3,18 +3,16 @@
 use Prim.Native.Nat.{ℕ, zero, suc, _+_, _*_, _-_, _≤_, _<_, _^_, zero-le}
 use native.Mathlib.Nat.{mul-le-mul, le-refl, suc-mul}
 use native.Mathlib.Omega.{arith}
-use mathlib.Core.Path.{refl}
 use mathlib.Core.List.{List, [], _∷_}
 use lib.Dec.{ltb, eqb}
 use lib.ListN.{length, take, drop, length-take, List·getD-eq-default}
-use lib.Seq.{getD-take, getD-drop}
 use native.Mathlib.Decide.{decLt}
 use Rattle.octets.specs.Bytes.{byteAt}
 use Rattle.octets.specs.Rows.{firstCode}
 use Rattle.octets.proofs.Bools.{choice}
 use Rattle.memory.specs.declared.Format.{Format}
 use Rattle.memory.specs.Memory.{placeAt, entryOf}
-use Rattle.memory.proofs.Laws.{Fair, entry-short}
+use Rattle.memory.proofs.Laws.{Fair, part-byte, entry-short}
 use Rattle.sequence.specs.declared.Header.{Header}
 use Rattle.sequence.specs.declared.Header.the-variants.{Repeats, Bad}
 use Rattle.sequence.specs.declared.ListCard.{ListCard}
@@ -47,7 +45,7 @@ pub part-octets : (s : List ℕ) (at size : ℕ) → Octets s → Octets (take s
 part-octets s at size o k = near (decLt k size)
   where
     near : Dec (k < size) → byteAt (take size (drop at s)) k < 256
-    near (yes l) = rw (getD-take size (drop at s) k 0 l, getD-drop at s k 0) (o (at + k))
+    near (yes l) = rw (part-byte s at size k l) (o (at + k))
     near (no l) = rw (List·getD-eq-default (take size (drop at s)) 0 {n = k} (simp length-take (omega arith))) (omega arith)
 
 -- ── one raster

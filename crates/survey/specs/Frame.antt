@@ -7,6 +7,7 @@ use Rattle.memory.specs.declared.Format.{Format}
 use Rattle.memory.specs.Memory.{entryOf, listOf}
 use Rattle.sequence.specs.Starts.{among, startsOf, rastersAmong}
 use Rattle.sequence.specs.Raster.{rasterAt}
+use Rattle.sequence.specs.Within.{Alike}
 
 -- the line lists that the run rasters at these places name
 abbrev pub listsNamed : List ℕ → List ℕ → List ℕ
@@ -17,7 +18,7 @@ listsNamed text (p ∷ ps) = rasterAt text p .list ∷ listsNamed text ps
 unfoldable pub listsUsed : List ℕ → List ℕ
 listsUsed text = listsNamed text (rastersAmong text (startsOf text))
 
--- the second pair of tables has the bytes of the first in each of these sequences, and in each line list that one of them uses
+-- the second pair of tables is alike in each of these sequences, and in each line list that one of them uses
 pub record Agree (F : Format) (seqs lists seqs′ lists′ names : List ℕ) : Type 0 where
-  pub entries : (n : ℕ) → among n names ≡ true → entryOf F seqs′ n ≡ entryOf F seqs n
-  pub used : (n k : ℕ) → among n names ≡ true → k ≤ 47 → among k (listsUsed (entryOf F seqs n)) ≡ true → listOf lists′ k ≡ listOf lists k
+  pub entries : (n : ℕ) → among n names ≡ true → Alike (entryOf F seqs n) (entryOf F seqs′ n)
+  pub used : (n k : ℕ) → among n names ≡ true → k ≤ 47 → among k (listsUsed (entryOf F seqs n)) ≡ true → Alike (listOf lists k) (listOf lists′ k)

@@ -24,10 +24,12 @@ use Rattle.survey.specs.declared.Round.{Round}
 use Rattle.survey.specs.declared.Chain.{Chain}
 use Rattle.survey.specs.declared.Checked.{Checked}
 use Rattle.survey.specs.declared.Report.{Report}
+use Rattle.survey.specs.declared.Rest.{Rest}
 use Rattle.survey.specs.Items.{itemSteps, itemExposures}
 use Rattle.survey.specs.Walk.{reasonFor}
 use Rattle.survey.specs.Chain.{Told, told, total}
 use Rattle.survey.specs.Report.{padded}
+use Rattle.survey.specs.Still.{listsOver}
 
 -- ── a round
 -- past a command of this size, with this raster open after it, and so many steps and exposures more
@@ -98,11 +100,15 @@ pub record Free (chain : Chain) (n : ℕ) : Type 0 where
   pub low : n < 128
   pub new : getD (chain .marks) n false ≡ false
 
+-- of the numbers below this one just these are marked
+abbrev pub MarkedJust : ℕ → List Bool → List ℕ → Type 0
+MarkedJust most marks numbers = (k : ℕ) → k < most → getD marks k false ≡ among k numbers
+
 -- the chain lists these names, the newest first, and marks just them
 pub record Is (chain : Chain) (names : List ℕ) : Type 0 where
   pub list : chain .listed ≡ padded (reverse names)
   pub count : chain .count ≡ length names
-  pub marks : (k : ℕ) → k < 128 → getD (chain .marks) k false ≡ among k names
+  pub marks : MarkedJust 128 (chain .marks) names
 
 -- a call that passes is of a sequence that the table has
 abbrev pub LowCall : Closing → Type 0
@@ -138,3 +144,9 @@ reported E seqs c =
       steps = total (reasoned E seqs (c .ending)) (c .chain .steps) 0;
       exposures = total (reasoned E seqs (c .ending)) (c .chain .exposures) 0;
     }
+
+-- ── what a pass rests on
+-- these sequences and the line lists that they use are marked
+pub record RestOf (F : Format) (seqs names : List ℕ) (rest : Rest) : Type 0 where
+  pub sequences : MarkedJust 256 (rest .sequences) names
+  pub lists : MarkedJust 256 (rest .lists) (listsOver F seqs names)

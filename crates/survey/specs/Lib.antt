@@ -4,4 +4,5 @@ pub mod Walk
 pub mod Chain
 pub mod Report
 pub mod Frame
+pub mod Still
 pub mod Held

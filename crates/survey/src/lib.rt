@@ -1,19 +1,26 @@
 // The table check: it reads and does not run.
 ghost use mathlib.Core.Path.{_≡_};
-ghost use Prim.Native.Nat.{ℕ, _+_, _≤_, _<_, _^_};
-ghost use mathlib.Core.Bool.{true};
+ghost use Prim.Native.Nat.{ℕ, _+_, _*_, _-_, _≤_, _<_, _^_};
+ghost use mathlib.Core.Bool.{true, false, _&&_, _||_};
 ghost use mathlib.Core.List.{List};
-ghost use lib.ListN.{length, take};
-ghost use Rattle.memory.specs.Memory.{formatOf, fills};
+ghost use lib.Dec.{ltb};
+ghost use lib.ListN.{length, take, getD};
+ghost use Rattle.octets.specs.Bytes.{byteAt};
+ghost use Rattle.memory.specs.Memory.{formatOf, fills, tablesWrong, addressOf};
 ghost use Rattle.sequence.specs.declared.Command.the-variants.{LoopBack};
 ghost use Rattle.sequence.specs.Text.{rowOf, sizeAt};
+ghost use Rattle.sequence.specs.Starts.{among};
 ghost use Rattle.sequence.specs.Raster.{rasterAt};
 ghost use Rattle.sequence.specs.Env.{cardsOf, envOf};
 ghost use Rattle.survey.specs.Items.{rasterSteps, rasterExposures};
 ghost use Rattle.survey.specs.Walk.{oneMore, reasonFor, walk, checkOne, findingOf};
 ghost use Rattle.survey.specs.Chain.{total, follow, checkOf};
 ghost use Rattle.survey.specs.Report.{reasonShown, reportOf, walkedOf, checkAlone};
-ghost use Rattle.survey.specs.Held.{moved, RoomFor, exposuresIn, pauseIn, between, loopedIn, allRounds, AtMost, unmarked, Marked, Free, Is, LowCall, joined, ahead, emptyChain, reasoned, reported};
+ghost use Rattle.survey.specs.Frame.{listsUsed};
+ghost use Rattle.survey.specs.Still.{another, changedIn, firstOf, lowestChanged, standingAt, stillOf};
+ghost use Rattle.survey.specs.Held.{moved, RoomFor, exposuresIn, pauseIn, between, loopedIn, allRounds, AtMost, unmarked, Marked, Free, Is, LowCall, joined, ahead, emptyChain, reasoned, reported, MarkedJust, RestOf};
+use memory::Address;
+use memory::Addressed;
 use memory::Format;
 use memory::Place;
 use memory::Placed;
@@ -95,6 +102,20 @@ pub struct Report {
     pub count: usize,
     pub steps: u64,
     pub exposures: u64,
+}
+
+// What a check's pass comes to over the tables of a later time: there was no pass, and so the check ended; every byte that it rests on is as it
+// was; or the lowest address of one that is not.
+pub enum Standing {
+    Unpassed(Ending),
+    Same,
+    Changed(Address),
+}
+
+// The sequences and the line lists that a pass rests on: a mark for each number that a byte can have.
+struct Rest {
+    sequences: [bool; 256],
+    lists: [bool; 256],
 }
 
 // The place past the command at this number, or the number itself where none stands there whole.
@@ -481,4 +502,164 @@ pub fn check(kind: u32, seqs: &[u8], lists: &[u8], number: u32) -> Report
         return above.report(format, seqs, lists);
     }
     check_sequence(format, seqs, lists, number as u8, chain).report(format, seqs, lists)
+}
+
+// The marks, with those of the line lists that the run rasters of a text name.
+fn mark_lists(format: Format, text: &[u8], used: [bool; 256]) -> [bool; 256]
+    requires { ⌜ length (now text) ≤ format .size ⌝ }
+    ensures { λ r. ⌜ ((k : ℕ) → k < 256 → getD r k false ≡ (getD used k false || among k (listsUsed (now (text .entry))))) ⌝ }
+{
+    let mut marks = used;
+    let mut place: u8 = 4;
+    let mut left = text.len();
+    while 0 < left {
+        let Placed::At(at) = Place::of(format, place) else {
+            return marks;
+        };
+        let next = sequence::past(text, at);
+        if next == place {
+            return marks;
+        }
+        if sequence::raster_stands(text, at) {
+            let n = sequence::list_at(text, at) as usize;
+            marks[n] = true;
+        }
+        place = next;
+        left -= 1;
+    }
+    marks
+}
+
+// What a pass rests on: the listed sequences, and the line lists that those use.
+fn rest_of(format: Format, seqs: &[u8], listed: &[u8]) -> Rest
+    ensures { λ r. ⌜ RestOf format (now (seqs .entry)) (now (listed .entry)) r ⌝ }
+{
+    let mut sequences = [false; 256];
+    let mut lists = [false; 256];
+    let mut i = 0;
+    while i < listed.len() {
+        let n = listed[i];
+        let mark = n as usize;
+        sequences[mark] = true;
+        let more = mark_lists(format, memory::entry(format, seqs, n), lists);
+        lists = more;
+        i += 1;
+    }
+    Rest { sequences, lists }
+}
+
+// The first offset from one up to an end at which a table has another byte now; the end where there is none.
+fn differs(was: &[u8], is: &[u8], from: usize, end: usize) -> usize
+    requires { ⌜ (from ≤ end) × (end ≤ length (now was)) × (length (now is) ≡ length (now was)) ⌝ }
+    ensures { λ r. ⌜ r ≡ firstOf (another (now (was .entry)) (now (is .entry))) (end - from) from ⌝ }
+{
+    let mut at = from;
+    while at < end {
+        if was[at] != is[at] {
+            return at;
+        }
+        at += 1;
+    }
+    at
+}
+
+// The first offset of a byte in the entry at an offset, within its length, that is another now; the offset after the entry where there is none.
+fn entry_changed(was: &[u8], is: &[u8], at: usize, size: usize) -> usize
+    requires { ⌜ (0 < size) × (at + size ≤ length (now was)) × (length (now is) ≡ length (now was)) ⌝ }
+    ensures { λ r. ⌜ r ≡ firstOf (λ i. ltb i (at + byteAt (now (was .entry)) at) && another (now (was .entry)) (now (is .entry)) i) size at ⌝ }
+{
+    let length = was[at] as usize;
+    if size < length {
+        return differs(was, is, at, at + size);
+    }
+    let end = at + length;
+    let found = differs(was, is, at, end);
+    if found < end { found } else { at + size }
+}
+
+// The first offset of a byte in the marked ones of a table's entries, within its length, that is another now; the table's size where there is none.
+fn first_changed(was: &[u8], is: &[u8], size: usize, count: usize, marks: [bool; 256]) -> usize
+    requires { ⌜ (0 < size) × (count ≤ 256) × (length (now was) ≡ count * size) × (length (now is) ≡ length (now was)) ⌝ }
+    ensures { λ r. ⌜ ((entries : List ℕ) → MarkedJust 256 marks entries → r ≡ firstOf (changedIn size (now (was .entry)) (now (is .entry)) entries) (count * size) 0) ⌝ }
+    ensures { λ r. ⌜ r ≤ count * size ⌝ }
+{
+    let mut n = 0;
+    while n < count {
+        if marks[n] {
+            let at = n * size;
+            let found = entry_changed(was, is, at, size);
+            if found < at + size {
+                return found;
+            }
+        }
+        n += 1;
+    }
+    count * size
+}
+
+// The number of the lowest address at which a byte that a pass rests on is another now; the number after both tables where there is none.
+fn lowest_changed(
+    format: Format,
+    seqs: &[u8],
+    lists: &[u8],
+    seqs2: &[u8],
+    lists2: &[u8],
+    rest: Rest,
+) -> u32
+    requires { ⌜ (tablesWrong format (now seqs) (now lists) ≡ false) × (tablesWrong format (now seqs2) (now lists2) ≡ false) ⌝ }
+    ensures { λ r. ⌜ ((names : List ℕ) → RestOf format (now (seqs .entry)) names rest → r ≡ lowestChanged format (now (seqs .entry)) (now (lists .entry)) (now (seqs2 .entry)) (now (lists2 .entry)) names) ⌝ }
+{
+    let sequences = rest.sequences;
+    let size = format.size as usize;
+    let at = first_changed(seqs, seqs2, size, format.last as usize + 1, sequences);
+    if at < memory::SEQUENCE_TABLE {
+        return memory::SEQUENCE_ADDRESS + at as u32;
+    }
+    let used = rest.lists;
+    let size = memory::LINE_LIST_SIZE;
+    let at = first_changed(lists, lists2, size, memory::LINE_LISTS, used);
+    memory::LINE_LIST_ADDRESS + at as u32
+}
+
+impl Standing {
+    // What stands where the lowest changed address has this number: a number that is no address tells that there is none.
+    fn at(number: u32) -> Standing
+        ensures { λ r. ⌜ r ≡ standingAt (addressOf number) ⌝ }
+    {
+        match Address::of(number) {
+            Addressed::Known(address) => Standing::Changed(address),
+            Addressed::Nowhere => Standing::Same,
+        }
+    }
+}
+
+// Whether the check's pass over the first tables stands over the second ones, of the same kind: 16 for tables of a wrong size or of no kind, then the
+// check's own 7 or fault, then whether every byte that the pass rests on is as it was, or the lowest address of one that is not.
+pub fn still(
+    kind: u32,
+    seqs: &[u8],
+    lists: &[u8],
+    seqs2: &[u8],
+    lists2: &[u8],
+    number: u32,
+) -> Standing
+    ensures { λ r. ⌜ r ≡ stillOf (formatOf kind) (now (seqs .entry)) (now (lists .entry)) (now (seqs2 .entry)) (now (lists2 .entry)) number ⌝ }
+{
+    if memory::tables_wrong(kind, seqs2, lists2) {
+        return Standing::Unpassed(Ending::Unlisted(16));
+    }
+    let report = check(kind, seqs, lists, number);
+    let ending = report.ending;
+    match ending {
+        Ending::Unlisted(code) => return Standing::Unpassed(Ending::Unlisted(code)),
+        Ending::Faults(n, fault, reason) => {
+            return Standing::Unpassed(Ending::Faults(n, fault, reason));
+        }
+        Ending::Finishes => {}
+        Ending::Returns => {}
+    }
+    let format = Format::of(kind);
+    let listed = report.listed;
+    let rest = rest_of(format, seqs, octets::part(&listed, 0, report.count));
+    Standing::at(lowest_changed(format, seqs, lists, seqs2, lists2, rest))
 }

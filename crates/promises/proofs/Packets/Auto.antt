@@ -7,7 +7,7 @@ use mathlib.Core.Bool.{Bool, true, false, cond, true≢false, false≢true}
 use mathlib.Core.List.{List, [], _∷_}
 use lib.Dec.{leb, eqb}
 use lib.ListN.{length, drop}
-use borrow.Author.Tests.{eqb-true}
+use borrow.Author.Tests.{eqb-true, eq-eqb}
 use Rattle.octets.specs.Bytes.{byteAt}
 use Rattle.octets.specs.Rows.{NoneHolds}
 use Rattle.octets.proofs.Bools.{by-test, choice}
@@ -18,7 +18,7 @@ use Rattle.memory.specs.Memory.{seqsWritten, listsWritten}
 use Rattle.unit.specs.declared.Unit.{Unit as ControlUnit}
 use Rattle.telecommand.specs.declared.Telecommand.{Telecommand}
 use Rattle.telecommand.specs.declared.Telecommand.the-variants.{Status, Dump, Allow, Mode, Clear, Select, Uplink, Foreign, Unheard}
-use Rattle.telecommand.specs.Packet.{commandOf, foreign, is, obeyable, telecommandOf, sizeGood, pairAllowed, writesTo}
+use Rattle.telecommand.specs.Packet.{commandOf, foreign, bc1Of, is, obeyable, telecommandOf, sizeGood, pairAllowed, writesTo}
 use Rattle.unit.specs.Packet.{ownRows, codeOf}
 use Rattle.unit.specs.Answer.{effect, obeyedUnit, refusedUnit, unitAfter, seqsAfter, listsAfter}
 use Rattle.telecommand.proofs.Laws.{is-told, numbers}
@@ -44,13 +44,14 @@ obeyed-stays F u Uplink p h e x = (refl, e)
 obeyed-stays F u Foreign p h e x = (refl, e)
 obeyed-stays F u Unheard p h e x = (refl, e)
 
--- the only packet that is obeyed as a change to MANUAL is 21 02
-mode-is : (n : ℕ) → telecommandOf n ≡ Mode → n ≡ 0x21
+-- a command that the unit obeys is known by its own number alone
+pub number-is : (k : Telecommand) → is k Foreign ≡ false → is k Unheard ≡ false → (n : ℕ) → telecommandOf n ≡ k → n ≡ bc1Of k
 unfolding telecommandOf
-mode-is n e =
-    let apart = choice (λ (k : Telecommand). k ≡ Mode → ⊥) (foreign n) Foreign Unheard (λ _ z. false≢true (ap (is Mode) z)) (λ _ z. false≢true (ap (is Mode) z)) in
-    numbers n obeyable (cond (foreign n) Foreign Unheard) Mode apart e
+number-is k f h n e =
+    let other : (c : Telecommand) → is k c ≡ false → c ≡ k → ⊥ = λ c x z. false≢true (sym x ∙ ap (is k) z ∙ eq-eqb (bc1Of k) (bc1Of k) refl) in
+    numbers n obeyable (cond (foreign n) Foreign Unheard) k (choice (λ (c : Telecommand). c ≡ k → ⊥) (foreign n) Foreign Unheard (λ _. other Foreign f) (λ _. other Unheard h)) e
 
+-- the only packet that is obeyed as a change to MANUAL is 21 02
 two-bytes : (p : List ℕ) (a b : ℕ) → length p ≡ 2 → byteAt p 0 ≡ a → byteAt p 1 ≡ b → p ≡ a ∷ b ∷ []
 two-bytes [] a b l e f = absurd (omega arith)
 two-bytes (x ∷ []) a b l e f = absurd (omega arith)
@@ -58,7 +59,7 @@ two-bytes (x ∷ y ∷ []) a b l e f = ap₂ (λ (v w : ℕ). v ∷ w ∷ []) e 
 two-bytes (x ∷ y ∷ z ∷ zs) a b l e f = absurd (omega arith)
 
 calls-back : (p : List ℕ) → commandOf p ≡ Mode → sizeGood (commandOf p) p ≡ true → byteAt p 1 ≡ 2 → p ≡ callingBack
-calls-back p k l b = two-bytes p 0x21 0x02 (eqb-true (length p) 2 (subst (λ (x : Telecommand). sizeGood x p ≡ true) k l)) (mode-is (byteAt p 0) k) b
+calls-back p k l b = two-bytes p 0x21 0x02 (eqb-true (length p) 2 (subst (λ (x : Telecommand). sizeGood x p ≡ true) k l)) (number-is Mode refl refl (byteAt p 0) k) b
 
 uplink-passed : (F : Format) (u : ControlUnit) (p : List ℕ) → NoneHolds (ownRows F Uplink u p) → u .runner .running ≡ false
 unfolding ownRows

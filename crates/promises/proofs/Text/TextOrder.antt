@@ -3,19 +3,19 @@
 use Prim.Native.Nat.{ℕ, zero, suc, _+_, _-_, _≤_, _<_}
 use native.Mathlib.Omega.{arith}
 use mathlib.Core.Path.{_≡_, refl, sym, ap, subst, _∙_}
-use mathlib.Core.Bool.{Bool, true, false, cond, not, or-true}
+use mathlib.Core.Bool.{Bool, true, false, cond}
 use mathlib.Core.List.{List, [], _∷_, _++_}
-use lib.Dec.{ltb, eqb}
+use lib.Dec.{eqb}
 use lib.ListN.{length}
-use borrow.Author.Tests.{eqb-true, not-false, le-leb}
+use borrow.Author.Tests.{eqb-true, not-false}
 use Rattle.octets.specs.Rows.{NoneHolds}
 use Rattle.memory.specs.Memory.{placeAt}
 use Rattle.sequence.specs.declared.Command.{Command}
 use Rattle.sequence.specs.declared.Command.the-variants.{RunRaster, Expose, LoopBack, CallSequence, Terminate, Delay}
-use Rattle.sequence.specs.Text.{lengthGood, limit, noneThere, commandAt, sizeAt, sizeOf, numberOf, isRunRaster}
+use Rattle.sequence.specs.Text.{limit, commandAt, sizeAt, sizeOf, numberOf, isRunRaster}
 use Rattle.sequence.specs.Starts.{starts, startsOf, rastersAmong}
 use Rattle.sequence.specs.Env.{Env}
-use Rattle.sequence.proofs.Laws.{size-inside, starts-off, starts-on}
+use Rattle.sequence.proofs.Laws.{size-inside, none-last, starts-off, starts-on}
 use Rattle.sequence.proofs.Hops.{hops-le}
 use Rattle.runner.specs.declared.Opened.{Opened}
 use Rattle.runner.specs.declared.Opened.the-variants.{Shut}
@@ -96,10 +96,6 @@ module _ (E : Env) (text : List ℕ) (p : ℕ) where
       → (p + sizeAt text p ≡ limit text) × (commandAt text p ≡ commandOf closing)
   closes-last Terminates j (ends k) = (ends-text (subst (λ (y : Command). NoneHolds (ownRows E text p Shut y)) k (tells E text p Shut Ends j)), k)
   closes-last (CallsOn n) j (calls k) = (ends-text (subst (λ (y : Command). NoneHolds (ownRows E text p Shut y)) k (tells E text p Shut (Calls n) j)), k)
-
-none-last : (text : List ℕ) → sizeAt text (limit text) ≡ 0
-unfolding sizeAt sizeOf commandAt noneThere
-none-last text = rw (le-leb (limit text) (limit text) (omega arith), or-true (not (lengthGood text)), or-true (ltb (limit text) 4))
 
 closing-inner : (c : Closing) → IsInner (closingAct c)
 closing-inner Terminates = tt

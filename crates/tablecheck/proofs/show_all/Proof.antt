@@ -8,10 +8,10 @@ use Rattle.tablecheck.proofs.show_all.Statement.{statement}
 use Rattle.tablecheck.proofs.show_all.Tie as tie
 
 abbrev Inv-loop : tie.InvT-loop
-Inv-loop kind seqs lists word₀ text₀ last n₀ word text n = (length word ≡ length word₀) × (length text ≡ length text₀) × (last ≤ 255)
+Inv-loop asked tables word₀ text₀ last end₀ n₀ word text end n = (length word ≡ length word₀) × (length text ≡ length text₀) × (last ≤ 255)
 
 abbrev μ-loop : tie.MeasureT-loop
-μ-loop kind seqs lists word₀ text₀ last n₀ word text n = 256 - n
+μ-loop asked tables word₀ text₀ last end₀ n₀ word text end n = 256 - n
 
 loop-holds : tie.Need-loop-holds Inv-loop μ-loop
 loop-holds c = (refl, refl, omega (arith, c .struct-known .given))
@@ -28,9 +28,12 @@ show-all-spec =
     (λ c κs. search needs)
     (λ c κs. search needs)
     (λ c κs. search needs)
+    (λ c κs. search needs)
     (λ c. search needs)
     (λ c. search needs)
     (λ c. search needs)
+    (λ c κs. search needs)
+    (λ c κs. search needs)
     (λ c. search needs)
     (λ c. search needs)
     (λ c. search needs))

@@ -7,10 +7,10 @@ use Rattle.tablecheck.proofs.show_named.Statement.{statement}
 use Rattle.tablecheck.proofs.show_named.Tie as tie
 
 abbrev Inv-loop : tie.InvT-loop
-Inv-loop kind first seqs lists word₀ text₀ count i₀ word text i = (length word ≡ length word₀) × (length text ≡ length text₀)
+Inv-loop asked tables word₀ text₀ count end₀ i₀ word text end i = (length word ≡ length word₀) × (length text ≡ length text₀)
 
 abbrev μ-loop : tie.MeasureT-loop
-μ-loop kind first seqs lists word₀ text₀ count i₀ word text i = count - i
+μ-loop asked tables word₀ text₀ count end₀ i₀ word text end i = count - i
 
 loop-holds : tie.Need-loop-holds Inv-loop μ-loop
 loop-holds c = (refl, refl)
@@ -26,9 +26,12 @@ show-named-spec =
     (λ c κs. search needs)
     (λ c κs. search needs)
     (λ c κs. search needs)
+    (λ c κs. search needs)
     (λ c. search needs)
     (λ c. search needs)
     (λ c. search needs)
+    (λ c κs. search needs)
+    (λ c κs. search needs)
     (λ c. search needs)
     (λ c. search needs)
     (λ c. search needs))

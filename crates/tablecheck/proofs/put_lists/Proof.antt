@@ -3,20 +3,20 @@ use borrow.Author.Needs.{needs}
 use Prim.Native.Nat.{_-_}
 use mathlib.Core.Path.{_≡_, refl}
 use lib.ListN.{length}
-use Rattle.tablecheck.proofs.show_lists.Statement.{statement}
-use Rattle.tablecheck.proofs.show_lists.Tie as tie
+use Rattle.tablecheck.proofs.put_lists.Statement.{statement}
+use Rattle.tablecheck.proofs.put_lists.Tie as tie
 
 abbrev Inv-loop : tie.InvT-loop
-Inv-loop lists text₀ end₀ n₀ text end n = length text ≡ length text₀
+Inv-loop text₀ at lists end₀ n₀ text end n = length text ≡ length text₀
 
 abbrev μ-loop : tie.MeasureT-loop
-μ-loop lists text₀ end₀ n₀ text end n = 48 - n
+μ-loop text₀ at lists end₀ n₀ text end n = 48 - n
 
 loop-holds : tie.Need-loop-holds Inv-loop μ-loop
 loop-holds c = refl
 
-pub show-lists-spec : {M : Type 1} → statement M
-show-lists-spec =
+pub put-lists-spec : {M : Type 1} → statement M
+put-lists-spec =
     tie.close
     (tie.spec
     Inv-loop
@@ -28,7 +28,5 @@ show-lists-spec =
     (λ c. search needs)
     (λ c. search needs)
     (λ c. search needs)
-    (λ c κs. search needs)
-    (λ c κs. search needs)
     (λ c. search needs)
     (λ c. search needs))
