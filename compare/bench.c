@@ -17,17 +17,19 @@
 #include <string.h>
 #include <time.h>
 
-enum { BATCHES = 101, BATCH_NS = 400000, RUN = 1000 };
+enum { BATCHES = 101, BATCH_NS = 400000, RUN = 1000, UPLINK = 128, USED_LIST = 7 };
 
 static uint8_t state[PLAIN_STATE];
 static uint8_t seqs[PLAIN_SEQUENCES];
 static uint8_t lists[PLAIN_LINE_LISTS];
 static uint8_t out[PLAIN_OUTPUT];
 static uint8_t report[PLAIN_REPORT];
+static uint8_t summary[PLAIN_CARDS];
 
-/* The call to measure, the kind of its tables, and the state that it starts from. */
+/* The call to measure, the kind of its tables, the state that it starts from, and an uplink's address. */
 static struct {
     uint32_t kind;
+    uint32_t address;
     uint8_t start[PLAIN_STATE];
     uint8_t packet[133];
     size_t packet_len;
@@ -69,6 +71,36 @@ static void keel_one_check(void)
 static void plain_one_check(void)
 {
     plain_check(now.kind, seqs, sizeof seqs, lists, sizeof lists, 0, report, sizeof report);
+}
+
+static void keel_one_cards(void)
+{
+    keel_cards(now.kind, seqs, sizeof seqs, lists, sizeof lists, summary, sizeof summary);
+}
+
+static void plain_one_cards(void)
+{
+    plain_cards(now.kind, seqs, sizeof seqs, lists, sizeof lists, summary, sizeof summary);
+}
+
+static void keel_one_update(void)
+{
+    keel_cards_update(now.kind, seqs, sizeof seqs, lists, sizeof lists, summary, sizeof summary, now.address, UPLINK);
+}
+
+static void plain_one_update(void)
+{
+    plain_cards_update(now.kind, seqs, sizeof seqs, lists, sizeof lists, summary, sizeof summary, now.address, UPLINK);
+}
+
+static void keel_one_card_check(void)
+{
+    keel_cards_check(now.kind, summary, sizeof summary, 0, report, sizeof report);
+}
+
+static void plain_one_card_check(void)
+{
+    plain_cards_check(now.kind, summary, sizeof summary, 0, report, sizeof report);
 }
 
 static void keel_run(void)
@@ -197,6 +229,23 @@ static void step_row(const char *name, unsigned event, unsigned nth)
     row(name, keel_one_step, plain_one_step);
 }
 
+/* The summary of the ring: made, brought up to date after an uplink, and checked. */
+static void card_rows(void)
+{
+    make_ring(PLAIN_NEW, seqs, lists, 128, 0, 0);
+    row("cards: make, 128 full sequences", keel_one_cards, plain_one_cards);
+    plain_one_cards();
+    now.address = 0x070000 + 128 * 64;
+    row("cards: update, one sequence", keel_one_update, plain_one_update);
+    make_users(seqs, lists, USED_LIST, 100);
+    plain_one_cards();
+    now.address = 0x074000 + 164 * USED_LIST;
+    row("cards: update, a line list that 100 sequences use", keel_one_update, plain_one_update);
+    make_ring(PLAIN_NEW, seqs, lists, 128, 0, 0);
+    plain_one_cards();
+    row("cards: check of a chain of 128", keel_one_card_check, plain_one_card_check);
+}
+
 int main(int argc, char **argv)
 {
     static const uint8_t status[] = {0x01};
@@ -245,5 +294,6 @@ int main(int argc, char **argv)
     /* Here a round has 24 run rasters: the last repeat of the last raster begins with a shift. */
     step_row("step: run raster with ASRC", PLAIN_RASTER, 24);
     row("check of 128, ASRC in each raster", keel_one_check, plain_one_check);
+    card_rows();
     return 0;
 }

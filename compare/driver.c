@@ -1,8 +1,9 @@
 /*
  * driver SEED ROUNDS: the proved library beside the plain one. Both are given the same bytes, call by
- * call, and every answer, state, table, output and report must be the same to the byte, also past the
- * end of what was lent. The first disagreement is shown and ends the run with status 1. A round is of
- * tables of one kind or the other; a few of its calls are of the other kind, or of a number that is none.
+ * call, and every answer, state, table, output, report and summary must be the same to the byte, also past
+ * the end of what was lent. After each uplink the summary must also be what one made afresh is, and the check
+ * from its cards what the table check is. The first disagreement is shown and ends the run with status 1. A round
+ * is of tables of one kind or the other; a few of its calls are of the other kind, or of a number that is none.
  */
 #include "keel.h"
 #include "make.h"
@@ -21,6 +22,7 @@ struct side {
     uint8_t lists[PLAIN_LINE_LISTS + MARGIN];
     uint8_t out[PLAIN_OUTPUT + MARGIN];
     uint8_t report[PLAIN_REPORT + MARGIN];
+    uint8_t summary[PLAIN_CARDS + MARGIN];
 };
 static struct side keel, plain;
 
@@ -32,12 +34,18 @@ static struct {
     const char *call;
     unsigned long seed, round;
     uint32_t kind;
-    size_t state_len, seqs_len, lists_len, out_len, report_len, packet_len;
-    uint32_t time, number;
+    size_t state_len, seqs_len, lists_len, out_len, report_len, summary_len, packet_len;
+    uint32_t time, number, address, count;
     uint8_t before[PLAIN_STATE];
+    uint8_t wanted[PLAIN_CARDS]; /* what the summary, or at its start the report, is held against */
     uint8_t packet[MAKE_LONGEST];
     uint64_t keel_answer, plain_answer;
 } now;
+
+/* What has been seen of checks from cards. */
+struct card_checks {
+    unsigned long all, ends[4], reasons[5], refused[18];
+};
 
 /* What has been seen: of calls with a kind, by their kind, and last those with none. */
 enum { NO_KIND = PLAIN_OLD + 1, KINDS };
@@ -46,6 +54,8 @@ static struct {
     unsigned long codes[18], events[12], aborts[16], passes[3], faults[16], reasons[5], refused[17];
     unsigned long shifts[3], asrc_aborts[16], begun, asrc_passes, asrc_faults[16];
     unsigned longest_chain;
+    unsigned long makes[18], updates[18], ranges[4], changed[3], spoilt_updates, spoilt_changed;
+    struct card_checks kept, spoilt;
 } seen[KINDS];
 static struct {
     unsigned long power_on, runs, turns;
@@ -75,8 +85,8 @@ static void disagree(void)
 {
     printf("DISAGREE at %s, kind %lu, seed %lu, round %lu of kind %lu\n", now.call, (unsigned long)now.kind,
            now.seed, now.round, (unsigned long)round_kind);
-    printf("sizes         state %zu, sequences %zu, line lists %zu, output %zu, report %zu\n", now.state_len,
-           now.seqs_len, now.lists_len, now.out_len, now.report_len);
+    printf("sizes         state %zu, sequences %zu, line lists %zu, output %zu, report %zu, summary %zu\n",
+           now.state_len, now.seqs_len, now.lists_len, now.out_len, now.report_len, now.summary_len);
     show("state before", now.before, PLAIN_STATE);
     show("keel state", keel.state, PLAIN_STATE);
     show("plain state", plain.state, PLAIN_STATE);
@@ -84,7 +94,8 @@ static void disagree(void)
         size_t entry = make_entry(now.kind);
         show("its sequence", plain.seqs + entry * now.before[16], entry);
     }
-    printf("time %lu, number %lu\n", (unsigned long)now.time, (unsigned long)now.number);
+    printf("time %lu, number %lu, address %06lX, count %lu\n", (unsigned long)now.time, (unsigned long)now.number,
+           (unsigned long)now.address, (unsigned long)now.count);
     show("packet", now.packet, now.packet_len);
     show("keel report", keel.report, PLAIN_REPORT);
     show("plain report", plain.report, PLAIN_REPORT);
@@ -95,6 +106,7 @@ static void disagree(void)
     show_difference("line lists", keel.lists, plain.lists, sizeof keel.lists);
     show_difference("output", keel.out, plain.out, sizeof keel.out);
     show_difference("report", keel.report, plain.report, sizeof keel.report);
+    show_difference("summary", keel.summary, plain.summary, sizeof keel.summary);
     exit(1);
 }
 
@@ -114,6 +126,11 @@ static void compare_all(void)
 
 /* ---- The four calls ---- */
 
+static size_t summary_size(uint32_t kind)
+{
+    return kind == PLAIN_OLD ? PLAIN_OLD_CARDS : PLAIN_CARDS;
+}
+
 static void good_sizes(void)
 {
     now.kind = round_kind;
@@ -122,6 +139,7 @@ static void good_sizes(void)
     now.lists_len = PLAIN_LINE_LISTS;
     now.out_len = PLAIN_OUTPUT + (chance(10) ? any(MARGIN) : 0);
     now.report_len = PLAIN_REPORT;
+    now.summary_len = summary_size(round_kind);
 }
 
 static size_t wrong_size(size_t good)
@@ -325,6 +343,129 @@ static void check(uint32_t number)
         count_pass(of);
 }
 
+/* ---- The calls of the cards ---- */
+
+/* Some sizes, and a summary of the kind's size, of the round's kind's, or seldom of another. */
+static void some_card_sizes(unsigned percent_wrong)
+{
+    some_sizes(percent_wrong);
+    now.summary_len = summary_size(chance(50) ? now.kind : round_kind);
+    if (chance(percent_wrong))
+        now.summary_len = wrong_size(now.summary_len);
+}
+
+/* What a call left must be what was wanted of it. */
+static void hold_against(const char *what, const uint8_t *left, size_t n)
+{
+    if (memcmp(left, now.wanted, n) == 0)
+        return;
+    now.call = what;
+    disagree();
+}
+
+static void make_cards(void)
+{
+    uint32_t k, p;
+
+    begin("cards");
+    k = keel_cards(now.kind, keel.seqs, now.seqs_len, keel.lists, now.lists_len, keel.summary, now.summary_len);
+    p = plain_cards(now.kind, plain.seqs, now.seqs_len, plain.lists, now.lists_len, plain.summary, now.summary_len);
+    compare_answers(k, p);
+    compare_all();
+    seen[counted()].makes[p]++;
+}
+
+static uint32_t update_cards(uint32_t address, uint32_t count)
+{
+    uint32_t k, p;
+
+    begin("update of cards");
+    now.address = address;
+    now.count = count;
+    memcpy(now.wanted, plain.summary, sizeof now.wanted);
+    k = keel_cards_update(now.kind, keel.seqs, now.seqs_len, keel.lists, now.lists_len, keel.summary,
+                          now.summary_len, address, count);
+    p = plain_cards_update(now.kind, plain.seqs, now.seqs_len, plain.lists, now.lists_len, plain.summary,
+                           now.summary_len, address, count);
+    compare_answers(k, p);
+    compare_all();
+    seen[counted()].updates[p]++;
+    if (p != 0)
+        hold_against("update of cards, refused", plain.summary, sizeof now.wanted);
+    return p;
+}
+
+static void count_card_check(struct card_checks *counts, uint32_t code)
+{
+    counts->all++;
+    if (now.report_len != PLAIN_REPORT || plain.report[1] == PLAIN_NOTHING) {
+        counts->refused[code]++;
+        return;
+    }
+    counts->ends[plain.report[1]]++;
+    if (plain.report[1] == PLAIN_FAULT)
+        counts->reasons[plain.report[4]]++;
+}
+
+static void check_cards(uint32_t number, bool spoilt)
+{
+    uint32_t k, p;
+
+    begin("check from cards");
+    now.number = number;
+    k = keel_cards_check(now.kind, keel.summary, now.summary_len, number, keel.report, now.report_len);
+    p = plain_cards_check(now.kind, plain.summary, now.summary_len, number, plain.report, now.report_len);
+    compare_answers(k, p);
+    compare_all();
+    count_card_check(spoilt ? &seen[counted()].spoilt : &seen[counted()].kept, p);
+}
+
+/* Cards that the update under way has changed: of touched sequences, of users of touched line lists, of line lists. */
+static void count_changed(unsigned of)
+{
+    unsigned entry = now.address < 0x074000 ? make_entry(now.kind) : 164, sequences = make_count(now.kind);
+    uint32_t at = (now.address - 0x070000) % 0x4000;
+    bool lists = now.address >= 0x074000;
+
+    seen[of].ranges[2 * lists + ((at + now.count - 1) / entry > at / entry)]++;
+    for (unsigned i = 0; i < sequences; i++)
+        seen[of].changed[lists] += memcmp(now.wanted + 32 * i, plain.summary + 32 * i, 32) != 0;
+    for (unsigned i = 32 * sequences; i < now.summary_len; i += 4)
+        seen[of].changed[2] += memcmp(now.wanted + i, plain.summary + i, 4) != 0;
+}
+
+/* An uplink as a packet, and the update for it: afterwards the summary is one made afresh. */
+static void uplink_and_update(void)
+{
+    size_t length = make_uplink(now.packet, plain.seqs, plain.lists);
+    uint32_t address = (uint32_t)now.packet[1] << 16 | (uint32_t)now.packet[2] << 8 | now.packet[3];
+    uint32_t count = now.packet[4], code;
+
+    good_sizes();
+    packet(length);
+    code = update_cards(address, count);
+    if (code != plain.state[8]) {
+        now.call = "update of cards, beside its uplink";
+        disagree();
+    }
+    plain.state[8] = keel.state[8] = 0;
+    if (code == 0)
+        count_changed(round_kind);
+    plain_cards(round_kind, plain.seqs, PLAIN_SEQUENCES, plain.lists, PLAIN_LINE_LISTS, now.wanted,
+                now.summary_len);
+    hold_against("update of cards, beside cards made afresh", plain.summary, now.summary_len);
+}
+
+/* The check from cards is the check of the tables. */
+static void check_both(uint32_t number)
+{
+    good_sizes();
+    check(number);
+    memcpy(now.wanted, plain.report, PLAIN_REPORT);
+    check_cards(number, false);
+    hold_against("check from cards, beside the table check", plain.report, PLAIN_REPORT);
+}
+
 /* ---- Rounds ---- */
 
 static void both_get(uint8_t *keel_part, const uint8_t *plain_part, size_t n)
@@ -381,12 +522,73 @@ static void lone_steps(void)
     compare_all();
 }
 
+static uint32_t some_number(void)
+{
+    uint32_t count = make_count(round_kind);
+    return chance(95) ? any(count) : chance(50) ? count + any(2) : any(0xFFFFFFFF);
+}
+
 static void checks(void)
 {
     for (int i = 0; i < 50; i++) {
-        uint32_t count = make_count(round_kind);
         some_sizes(3);
-        check(chance(95) ? any(count) : chance(50) ? count + any(2) : any(0xFFFFFFFF));
+        check(some_number());
+    }
+}
+
+/* An address and a count that belong to no uplink, or only just to one. */
+static void odd_update(void)
+{
+    static const uint32_t ends[] = {0x070000, 0x074000, 0x075EC0, 0xFFFFFFFF, 0x01070000, 0x80074000, 0};
+    static const uint32_t counts[] = {0, 1, 2, 127, 128, 129, 164, 256, 257, 65536, 0x80000000, 0xFFFFFFFF};
+    uint32_t count = chance(50) ? counts[any(sizeof counts / sizeof *counts)] : any(130);
+    uint32_t address = ends[any(sizeof ends / sizeof *ends)] + any(4) - 2;
+
+    if (chance(40))
+        address = (chance(50) ? 0x074000 : 0x075EC0) - count + any(3) - 1;
+    else if (chance(30))
+        address = 0x070000 + any(0x5EC0);
+    update_cards(address, count);
+}
+
+/* The summary kept up to date through uplinks, and refused calls between them, which leave it as it is. */
+static void kept_cards(void)
+{
+    good_sizes();
+    power_on();
+    make_cards();
+    for (int i = 0; i < 6; i++)
+        check_both(some_number());
+    for (int i = 0; i < 24; i++) {
+        uplink_and_update();
+        check_both(some_number());
+        good_sizes();
+        odd_update();
+        if (chance(20)) {
+            some_card_sizes(10);
+            check_cards(some_number(), false);
+        }
+    }
+}
+
+/* A summary spoilt more and more. The uplinks' bytes are not written: an update works from the tables as they are. */
+static void spoilt_cards(void)
+{
+    for (int i = 0; i < 24; i++) {
+        unsigned number;
+        if (i % 8 == 0) {
+            some_card_sizes(4);
+            make_cards();
+        }
+        number = make_spoil(plain.summary);
+        both_get(keel.summary, plain.summary, PLAIN_CARDS);
+        some_card_sizes(2);
+        check_cards(chance(70) ? number : some_number(), true);
+        some_card_sizes(2);
+        make_uplink(now.packet, plain.seqs, plain.lists);
+        update_cards((uint32_t)now.packet[1] << 16 | (uint32_t)now.packet[2] << 8 | now.packet[3], now.packet[4]);
+        seen[counted()].spoilt_updates++;
+        seen[counted()].spoilt_changed += memcmp(now.wanted, plain.summary, sizeof now.wanted) != 0;
     }
 }
 
@@ -426,6 +628,35 @@ static void row(const char *name, const char *const *names, const unsigned long 
     printf("\n");
 }
 
+static void show_card_checks(const char *name, const struct card_checks *counts)
+{
+    static const char *const ends[] = {"nothing", "ends", "returns", "fault"};
+
+    printf("  checks from %s  %lu\n", name, counts->all);
+    row("  by end", ends, counts->ends, 4);
+    row("  faults by reason", NULL, counts->reasons, 5);
+    row("  refused by code", NULL, counts->refused, 18);
+}
+
+/* Calls of the cards. */
+static void show_cards(unsigned of)
+{
+    static const char *const ranges[] = {"a sequence", "two sequences", "a line list", "two line lists"};
+    static const char *const changed[] = {"of touched sequences", "of users of touched line lists", "of line lists"};
+    unsigned long updates = 0;
+
+    for (unsigned code = 0; code < 18; code++)
+        updates += seen[of].updates[code];
+    printf("updates    %10lu of summaries, %lu of them spoilt, with cards changed in %lu of these\n", updates,
+           seen[of].spoilt_updates, seen[of].spoilt_changed);
+    row("by code", NULL, seen[of].updates, 18);
+    row("after uplinks into", ranges, seen[of].ranges, 4);
+    row("cards changed then", changed, seen[of].changed, 3);
+    row("summaries made, by code", NULL, seen[of].makes, 18);
+    show_card_checks("cards, most beside the table check", &seen[of].kept);
+    show_card_checks("spoilt cards", &seen[of].spoilt);
+}
+
 /* Calls of one kind. */
 static void show_kind(unsigned of)
 {
@@ -450,6 +681,7 @@ static void show_kind(unsigned of)
     row("faults for ASRC", NULL, seen[of].asrc_faults, 16);
     row("faults by reason", NULL, seen[of].reasons, 5);
     row("refused by code", NULL, seen[of].refused, 17);
+    show_cards(of);
 }
 
 static void show_counts(void)
@@ -460,6 +692,9 @@ static void show_counts(void)
     printf("packets    %10lu, %lu of them with code 16\n", seen[NO_KIND].packets, seen[NO_KIND].codes[16]);
     printf("steps      %10lu, %lu of them refused\n", seen[NO_KIND].steps, seen[NO_KIND].events[PLAIN_REFUSED]);
     printf("checks     %10lu, %lu of them with code 16\n", seen[NO_KIND].checks, seen[NO_KIND].refused[16]);
+    row("summaries made, by code", NULL, seen[NO_KIND].makes, 18);
+    row("updates by code", NULL, seen[NO_KIND].updates, 18);
+    row("checks from cards by code", NULL, seen[NO_KIND].spoilt.refused, 18);
     printf("power on   %10lu\n", seen_in_all.power_on);
     printf("long runs  %10lu, of %lu turns in all\n", seen_in_all.runs, seen_in_all.turns);
 }
@@ -483,6 +718,9 @@ int main(int argc, char **argv)
         lone_steps();
         lone_packets();
         long_run();
+        new_tables(chance(90));
+        kept_cards();
+        spoilt_cards();
     }
     show_counts();
     printf("seed %lu, %lu rounds: all agree\n", now.seed, rounds);

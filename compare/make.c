@@ -622,6 +622,19 @@ void make_ring(uint32_t kind, uint8_t *seqs, uint8_t *lists, unsigned n, unsigne
         put_full_sequence(seqs + formats[kind].entry * i, formats[kind].longest, (i + 1) % n, flags, asrc);
 }
 
+void make_users(uint8_t *seqs, uint8_t *lists, unsigned list, unsigned users)
+{
+    make_ring(0, seqs, lists, formats[0].count, 0, 0);
+    memcpy(lists + LIST_ENTRY * list, lists, LIST_ENTRY);
+    for (unsigned i = 0; i < users; i++) {
+        uint8_t *text = seqs + formats[0].entry * i;
+        for (unsigned at = 4; at < text[0] - 3u; at += text[at] == 0x90 ? 23 : text[at] == 0x92 ? 2 : 3)
+            if (text[at] == 0x90)
+                text[at + 21] = (uint8_t)list;
+        text[text[0] - 1] = xor_over(text, text[0] - 1u);
+    }
+}
+
 /* ---- States ---- */
 
 /* The state's bytes, as keel.h lays them out. */
@@ -865,6 +878,176 @@ static size_t uplink_packet(uint8_t *p)
     p[4] = (uint8_t)count;
     return 5 + count;
 }
+
+/* ---- Uplinks into tables ---- */
+
+enum { TABLES_AT = 0x070000, LISTS_AT = 16384, TABLES_END = LISTS_AT + LIST_ENTRY * LISTS };
+
+/* Both tables in a row, as an uplink leaves them, and its range in them. */
+static struct {
+    uint8_t bytes[TABLES_END];
+    unsigned from, end;
+} after;
+
+static unsigned entry_size(unsigned at)
+{
+    return at < LISTS_AT ? taste.format->entry : LIST_ENTRY;
+}
+
+/* Where the entry begins that has this byte. */
+static unsigned entry_start(unsigned at)
+{
+    return at < LISTS_AT ? at - at % taste.format->entry : at - (at - LISTS_AT) % LIST_ENTRY;
+}
+
+static bool in_range(unsigned at)
+{
+    return at >= after.from && at < after.end;
+}
+
+/* A range of up to 128 bytes in one table: in an entry of which a few are taken often, across two, or at an end. */
+static void choose_range(void)
+{
+    bool lists = chance(50);
+    unsigned start = lists ? LISTS_AT : 0, end = lists ? TABLES_END : LISTS_AT, size = entry_size(start);
+    unsigned entries = (end - start) / size, count = chance(20) ? 1 : between(1, UPLINK), at, before;
+
+    at = start + size * any(chance(50) ? 4 : entries);
+    switch (any(5)) {
+    case 0: /* from its first byte, or at the table's very end */
+        at = chance(70) ? at : end - count;
+        break;
+    case 1: /* all of it, or as much as goes; of the old kind often the other half */
+        count = size < UPLINK ? size : UPLINK;
+        at += chance(50) ? size - count : 0;
+        break;
+    case 2: /* across its end, be it by one byte */
+        count = count < 2 ? 2 : count;
+        before = chance(30) ? 1 : chance(30) ? count - 1 : between(1, count - 1);
+        at = at + size < end ? at + size - before : end - count;
+        break;
+    default: /* anywhere in it, and on from there */
+        at += any(size);
+    }
+    after.from = at;
+    after.end = at + count < end ? at + count : end;
+}
+
+/* The part that lies in the range of an entry made new. */
+static void make_part(unsigned start)
+{
+    uint8_t entry[LARGEST_ENTRY];
+
+    if (start < LISTS_AT)
+        make_sequence(entry, start / taste.format->entry, 2);
+    else
+        make_line_list(entry, 2);
+    for (unsigned i = 0; i < entry_size(start); i++)
+        if (in_range(start + i))
+            after.bytes[start + i] = entry[i];
+}
+
+/* Makes an entry's checksum right, if it lies in the range. */
+static void mend_part(unsigned start)
+{
+    uint8_t *entry = after.bytes + start;
+    unsigned length = entry[0], sum = start < LISTS_AT ? length - 1 : 3;
+
+    if (length > 5 && length <= entry_size(start) && in_range(start + sum))
+        entry[sum] ^= xor_over(entry, length);
+}
+
+/* The bytes of the range: as they are, one of them another, of entries made new, or noise; often with checksums
+ * mended. */
+static void choose_bytes(void)
+{
+    unsigned first = entry_start(after.from), last = entry_start(after.end - 1), way = any(10);
+
+    if (way == 0)
+        noise_at(after.bytes + after.from, after.end - after.from);
+    else if (way < 6)
+        alter(after.bytes + between(after.from, after.end - 1));
+    else if (way < 9)
+        for (unsigned start = first; start <= last; start += entry_size(start))
+            make_part(start);
+    if (way > 0 && chance(70))
+        for (unsigned start = first; start <= last; start += entry_size(start))
+            mend_part(start);
+}
+
+size_t make_uplink(uint8_t *p, const uint8_t *seqs, const uint8_t *lists)
+{
+    unsigned count;
+
+    if (chance(35))
+        return uplink_packet(p);
+    memcpy(after.bytes, seqs, LISTS_AT);
+    memcpy(after.bytes + LISTS_AT, lists, TABLES_END - LISTS_AT);
+    choose_range();
+    choose_bytes();
+    count = after.end - after.from;
+    p[0] = 0xE7;
+    put_address(p + 1, TABLES_AT + after.from);
+    p[4] = (uint8_t)count;
+    memcpy(p + 5, after.bytes + after.from, count);
+    return 5 + count;
+}
+
+/* ---- Summaries that no tables give ---- */
+
+/* A number about the few that mean something, or any. */
+static uint8_t about(unsigned few)
+{
+    return (uint8_t)(chance(70) ? any(few + 1) : any(256));
+}
+
+/* A total about the least that no card has. */
+static void put_large_total(uint8_t *at)
+{
+    static const uint64_t totals[] = {0, 1, (1ull << 54) - 1, 1ull << 54, (1ull << 54) + 1, 1ull << 63, ~0ull};
+    uint64_t total = totals[any(sizeof totals / sizeof *totals)];
+    for (int i = 7; i >= 0; i--, total >>= 8)
+        at[i] = (uint8_t)total;
+}
+
+static void spoil_card(uint8_t *card)
+{
+    unsigned last = taste.format->count - 1;
+
+    switch (any(8)) {
+    case 0: card[0] = about(2); break;
+    case 1: card[3] = about(3); break;
+    case 2: card[3] = (uint8_t)between(1, 2); card[4] = (uint8_t)(chance(70) ? last + any(3) - 1 : any(256)); break;
+    case 3: put_large_total(card + 8); break;
+    case 4: put_large_total(card + 16); break;
+    case 5: noise_at(card + 1, 7); card[0] = 1; card[5] = about(5); break;
+    case 6: card[24 + any(6)] ^= (uint8_t)(1 << any(8)); break;
+    default: card[any(32)] = (uint8_t)any(256);
+    }
+}
+
+static void spoil_list_card(uint8_t *card)
+{
+    switch (any(4)) {
+    case 0: card[0] = about(5); break;
+    case 1: card[1] = (uint8_t)any(256); break;
+    case 2: card[2] ^= (uint8_t)(1 << any(8)); break;
+    default: noise_at(card, 4); card[0] = about(5);
+    }
+}
+
+unsigned make_spoil(uint8_t *summary)
+{
+    unsigned count = taste.format->count, sequence = any(chance(50) ? 4 : count);
+
+    if (chance(70))
+        spoil_card(summary + 32 * sequence);
+    else
+        spoil_list_card(summary + 32 * count + 4 * any(LISTS));
+    return sequence;
+}
+
+/* ---- Packets of all kinds ---- */
 
 static unsigned some_mode(void)
 {

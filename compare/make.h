@@ -42,6 +42,9 @@ void make_change(unsigned way, uint8_t *seqs, uint8_t *lists);
  * ASRC byte; if it is not 0, skip is 2 and there are 6 repeats. Nothing in it is random. */
 void make_ring(uint32_t kind, uint8_t *seqs, uint8_t *lists, unsigned n, unsigned flags, unsigned asrc);
 
+/* The ring of 128 of kind 0, but the rasters of its first users use this line list, which is as line list 0 is. */
+void make_users(uint8_t *seqs, uint8_t *lists, unsigned list, unsigned users);
+
 /* One line list in an entry of 164 bytes, one sequence in an entry of its kind; both return its length. */
 size_t make_line_list(uint8_t *list, unsigned damage);
 size_t make_sequence(uint8_t *text, unsigned own, unsigned damage);
@@ -52,6 +55,14 @@ void make_state(uint8_t *state, const uint8_t *seqs);
 
 /* A packet of any kind; returns its length. */
 size_t make_packet(uint8_t *packet);
+
+/* An uplink into tables as these are: of any number of bytes, into an entry, across two or at a table's end, with
+ * bytes that suit the entries or do not, and with a range that is refused now and then; returns its length. */
+size_t make_uplink(uint8_t *packet, const uint8_t *seqs, const uint8_t *lists);
+
+/* Spoils one card of a summary, in a way that an update or a check from cards sees, or in any other; returns the
+ * number of the sequence whose card it is, if it is one's. */
+unsigned make_spoil(uint8_t *summary);
 
 /* What a busy operator does next with a unit in this state: steps, if *steps is not 0, else a packet
  * of the length returned. */

@@ -63,6 +63,7 @@ enum {
     SELECT = 0x83,
     UPLINK = 0xE7,
     LONGEST_PACKET = 133,
+    LONGEST_UPLINK = 128,
     STATUS_HEAD = 4,
     STATUS_BLOCK = 100
 };
@@ -132,6 +133,30 @@ enum {
 /* A line list's windows: where they begin, and the bytes of one. */
 enum { WINDOWS_AT = 14, WINDOW = 6 };
 
+/* The summary: a card for each sequence, then one for each line list; and the bytes of both. */
+enum {
+    CARD = 32,
+    CARD_FAULT = 0, /* 1, or 0 where the sequence passes */
+    CARD_PLACE = 1,
+    CARD_CODE = 2,
+    CARD_CLOSING = 3,
+    CARD_TARGET = 4,
+    CARD_REASON = 5,
+    CARD_EXPECTED = 6,
+    CARD_STEPS = 8,
+    CARD_EXPOSURES = 16,
+    CARD_USED = 24, /* 48 bits, list 0 the most significant, and 16 that are 0 */
+    LIST_CARD = 4,
+    LIST_REASON = 0,
+    LIST_EXPECTED = 1,
+    LIST_MARKS = 2
+};
+
+/* A card's closing command. */
+enum { NOT_CLOSED, ENDS, CALLS };
+
+enum { TOTAL_BITS = 54 }; /* what the totals of a card have at most */
+
 static unsigned word(const uint8_t *p)
 {
     return (unsigned)p[0] << 8 | p[1];
@@ -147,6 +172,20 @@ static void put_long(uint8_t *p, uint32_t value)
 {
     put_word(p, value >> 16);
     put_word(p + 2, value & 0xFFFF);
+}
+
+static uint64_t total(const uint8_t *p)
+{
+    uint64_t value = 0;
+    for (int i = 0; i < 8; i++)
+        value = value << 8 | p[i];
+    return value;
+}
+
+static void put_total(uint8_t *p, uint64_t value)
+{
+    put_long(p, (uint32_t)(value >> 32));
+    put_long(p + 4, (uint32_t)value);
 }
 
 static void add_one(uint8_t *p)
@@ -227,15 +266,26 @@ uint32_t plain_power_on(uint8_t *state, size_t state_len)
 
 /* ---- Packets ---- */
 
+/* Whether a range lies wholly in a table. */
+static bool in_sequences(uint32_t at, uint32_t count)
+{
+    return at >= SEQUENCES_AT && at < SEQUENCES_END && count <= SEQUENCES_END - at;
+}
+
+static bool in_line_lists(uint32_t at, uint32_t count)
+{
+    return at >= LINE_LISTS_AT && at < LINE_LISTS_END && count <= LINE_LISTS_END - at;
+}
+
 /* The table's own bytes of a range that lies wholly in one table, or NULL. */
 static uint8_t *range_of(uint8_t *seqs, uint8_t *lists, const uint8_t *address, unsigned count)
 {
     unsigned at = (unsigned)address[0] << 16 | word(address + 1);
     if (count == 0)
         return NULL;
-    if (at >= SEQUENCES_AT && at < SEQUENCES_END && count <= SEQUENCES_END - at)
+    if (in_sequences(at, count))
         return seqs + (at - SEQUENCES_AT);
-    if (at >= LINE_LISTS_AT && at < LINE_LISTS_END && count <= LINE_LISTS_END - at)
+    if (in_line_lists(at, count))
         return lists + (at - LINE_LISTS_AT);
     return NULL;
 }
@@ -461,6 +511,41 @@ unsigned plain_marks(const uint8_t *list)
     return marks & MARKED;
 }
 
+/* What the rules know the line lists by: their table, or their cards if there are. */
+struct line_lists {
+    const uint8_t *table;
+    const uint8_t *cards; /* or NULL */
+};
+
+/* So that rules that are said once are compiled for each of the two. */
+#define TWICE static inline __attribute__((always_inline))
+
+/* What a line list's card says is wrong with it; a number that is no reason's stands for a checksum. */
+static struct plain_reason carded_reason(const uint8_t *card)
+{
+    struct plain_reason reason = {card[LIST_REASON], 0};
+    if (reason.number > PLAIN_LENGTH) {
+        reason.number = PLAIN_CHECKSUM;
+        reason.expected = card[LIST_EXPECTED];
+    }
+    return reason;
+}
+
+TWICE struct plain_reason reason_of(const struct line_lists *lists, unsigned number)
+{
+    if (lists->cards == NULL)
+        return plain_line_list(lists->table + LINE_LIST_ENTRY * number);
+    return carded_reason(lists->cards + LIST_CARD * number);
+}
+
+/* The marks of a good one. */
+TWICE unsigned marks_of(const struct line_lists *lists, unsigned number)
+{
+    if (lists->cards == NULL)
+        return plain_marks(lists->table + LINE_LIST_ENTRY * number);
+    return lists->cards[LIST_CARD * number + LIST_MARKS] & MARKED;
+}
+
 /* One flag or none, or the XRT trigger with AEC. */
 static bool flags_good(unsigned flags)
 {
@@ -497,8 +582,8 @@ static int shift_of(const uint8_t *r, unsigned k)
 }
 
 /* Whether the mirror stays in its range in all repeats and in the one begun. Repeat 0 is not moved, and the others lie
- * between it and the furthest: those two decide. */
-static bool positions_good(const uint8_t *r, unsigned begun)
+ * between it and the furthest: those two decide. The walk over a text is faster with it left out of line. */
+static __attribute__((noinline)) bool positions_good(const uint8_t *r, unsigned begun)
 {
     unsigned first = raster_initial(r), last = first + (raster_loops(r) - 1) * raster_step(r);
     unsigned furthest;
@@ -515,18 +600,23 @@ static bool positions_good(const uint8_t *r, unsigned begun)
     return (int)first + shift >= 0 && (int)last + shift <= END_STOP;
 }
 
-/* A run raster's own tests, in the paper's order, once no other raster is open, with the repeat begun. */
-static unsigned raster_fault(const uint8_t *r, unsigned begun, const uint8_t *lists)
+/* A run raster's tests, in the paper's order, once no other raster is open, up to its line list's number. */
+static unsigned counts_fault(const uint8_t *r)
 {
-    const uint8_t *list = lists + LINE_LIST_ENTRY * raster_list(r);
-    unsigned flags = raster_flags(r), needed = flags & MARKED;
     if (raster_loops(r) == 0 || raster_repeats(r) == 0)
         return NO_LOOPS;
     if (raster_exposures(r) < 1 || raster_exposures(r) > MOST_EXPOSURES)
         return BAD_EXPOSURES;
     if (raster_list(r) > LAST_LINE_LIST)
         return BAD_LIST_NUMBER;
-    if (plain_line_list(list).number != PLAIN_GOOD)
+    return 0;
+}
+
+/* And from its line list on, with the repeat begun. */
+TWICE unsigned list_fault(const uint8_t *r, unsigned begun, const struct line_lists *lists)
+{
+    unsigned list = raster_list(r), flags = raster_flags(r), needed = flags & MARKED;
+    if (reason_of(lists, list).number != PLAIN_GOOD)
         return BAD_LINE_LIST;
     if (!asrc_good(r))
         return BAD_COMMAND;
@@ -534,7 +624,7 @@ static unsigned raster_fault(const uint8_t *r, unsigned begun, const uint8_t *li
         return PAST_END_STOP;
     if (!flags_good(flags))
         return BAD_COMMAND;
-    if (needed != 0 && (needed & ~plain_marks(list)) != 0)
+    if (needed != 0 && (needed & ~marks_of(lists, list)) != 0)
         return BAD_LINE_LIST;
     return 0;
 }
@@ -608,7 +698,9 @@ static uint64_t run_raster(uint8_t *s, const uint8_t *text, const uint8_t *lists
 
     if (s[RASTER] != NONE && s[RASTER] != place)
         return abort_run(s, BAD_COMMAND, place);
-    code = raster_fault(raster, begun, lists);
+    code = counts_fault(raster);
+    if (code == 0)
+        code = list_fault(raster, begun, &(struct line_lists){lists, NULL});
     if (code != 0)
         return abort_run(s, code, place);
 
@@ -742,9 +834,15 @@ struct finding {
     unsigned place;     /* of the command looked at last; a fault's place */
     unsigned next;      /* the sequence called, or NONE */
     struct plain_reason reason;
+    uint64_t used;      /* the line lists that the tests came to, list 0 the most significant bit */
     uint64_t steps;
     uint64_t exposures;
 };
+
+static uint64_t list_bit(unsigned number)
+{
+    return (uint64_t)1 << (63 - number);
+}
 
 /* Steps of one raster with all its passes and repeats, from its run raster to its loop back. */
 static uint64_t raster_steps(const struct format *format, const uint8_t *text, unsigned raster,
@@ -767,17 +865,44 @@ static uint64_t raster_total(const uint8_t *r)
 }
 
 /* Why a run raster is refused for its line list; if that is good, a mark is missing. */
-static struct plain_reason list_reason(const uint8_t *list)
+static struct plain_reason list_reason(const struct line_lists *lists, unsigned number)
 {
-    struct plain_reason reason = plain_line_list(list);
+    struct plain_reason reason = reason_of(lists, number);
     if (reason.number == PLAIN_GOOD)
         reason.number = PLAIN_MARK;
     return reason;
 }
 
+/* A run raster that opens a raster. */
+TWICE unsigned check_raster(const uint8_t *raster, const struct line_lists *lists, struct finding *f)
+{
+    unsigned list = raster_list(raster), code = counts_fault(raster);
+    if (code != 0)
+        return code;
+    f->used |= list_bit(list);
+    code = list_fault(raster, 0, lists);
+    if (code == BAD_LINE_LIST)
+        f->reason = list_reason(lists, list);
+    return code;
+}
+
+/* The closing command, with the totals of one round. */
+static unsigned check_closing(const struct format *format, const uint8_t *text, unsigned size, uint64_t steps,
+                              uint64_t exposures, struct finding *f)
+{
+    if (f->place + size + 1 != text[0])
+        return BAD_COMMAND;
+    f->next = text[f->place] == CALL ? text[f->place + 1] : NONE;
+    if (text[f->place] == CALL && f->next >= format->count)
+        return BAD_CALL;
+    f->steps = 1 + text[SEQUENCE_REPEATS] * (steps + 1);
+    f->exposures = text[SEQUENCE_REPEATS] * exposures;
+    return 0;
+}
+
 /* Applies the rules to one sequence in text order: its first fault's code, or 0. */
-static unsigned check_sequence(const struct format *format, const uint8_t *text, const uint8_t *lists,
-                               struct finding *f)
+TWICE unsigned check_sequence(const struct format *format, const uint8_t *text, const struct line_lists *lists,
+                              struct finding *f)
 {
     const uint8_t *raster = NULL;
     unsigned place, size, set = 0;
@@ -785,6 +910,7 @@ static unsigned check_sequence(const struct format *format, const uint8_t *text,
     unsigned code = entry_fault(format, text, &f->place);
 
     f->reason = (struct plain_reason){PLAIN_GOOD, 0};
+    f->used = 0;
     if (code != 0)
         return code;
     for (place = FIRST_COMMAND;; place += size) {
@@ -798,9 +924,7 @@ static unsigned check_sequence(const struct format *format, const uint8_t *text,
                 return BAD_COMMAND;
             raster = text + place;
             set = 0;
-            code = raster_fault(raster, 0, lists);
-            if (code == BAD_LINE_LIST)
-                f->reason = list_reason(lists + LINE_LIST_ENTRY * raster_list(raster));
+            code = check_raster(raster, lists, f);
             if (code != 0)
                 return code;
             break;
@@ -822,14 +946,7 @@ static unsigned check_sequence(const struct format *format, const uint8_t *text,
                 steps++;
             break;
         default:
-            if (raster != NULL || place + size + 1 != text[0])
-                return BAD_COMMAND;
-            f->next = text[place] == CALL ? text[place + 1] : NONE;
-            if (text[place] == CALL && f->next >= format->count)
-                return BAD_CALL;
-            f->steps = 1 + text[SEQUENCE_REPEATS] * (steps + 1);
-            f->exposures = text[SEQUENCE_REPEATS] * exposures;
-            return 0;
+            return raster != NULL ? BAD_COMMAND : check_closing(format, text, size, steps, exposures, f);
         }
     }
 }
@@ -848,10 +965,8 @@ static uint32_t report_fault(uint8_t *report, unsigned code, unsigned sequence, 
 static uint32_t report_pass(uint8_t *report, unsigned how, uint64_t steps, uint64_t exposures)
 {
     report[1] = (uint8_t)how;
-    put_long(report + 8, (uint32_t)(steps >> 32));
-    put_long(report + 12, (uint32_t)steps);
-    put_long(report + 16, (uint32_t)(exposures >> 32));
-    put_long(report + 20, (uint32_t)exposures);
+    put_total(report + 8, steps);
+    put_total(report + 16, exposures);
     return 0;
 }
 
@@ -859,6 +974,7 @@ uint32_t plain_check(uint32_t kind, const uint8_t *seqs, size_t seqs_len, const 
                      uint32_t number, uint8_t *report, size_t report_len)
 {
     const struct format *format = format_of(kind);
+    const struct line_lists tested = {lists, NULL};
     bool listed[MOST_SEQUENCES] = {false};
     uint64_t steps = 0, exposures = 0;
     unsigned count = 0, sequence = number;
@@ -878,7 +994,7 @@ uint32_t plain_check(uint32_t kind, const uint8_t *seqs, size_t seqs_len, const 
         listed[sequence] = true;
         report[CHAIN + count++] = (uint8_t)sequence;
         put_word(report + 6, count);
-        code = check_sequence(format, sequence_of(format, seqs, sequence), lists, &found);
+        code = check_sequence(format, sequence_of(format, seqs, sequence), &tested, &found);
         if (code != 0)
             return report_fault(report, code, sequence, &found);
         steps += found.steps;
@@ -943,4 +1059,176 @@ uint32_t plain_still(uint32_t kind, const uint8_t *seqs, size_t seqs_len, const 
     if (changed == 0)
         changed = first_change(LINE_LISTS_AT, LINE_LIST_ENTRY, LAST_LINE_LIST + 1, used, lists, now_lists);
     return changed << 8;
+}
+
+/* ---- The cards ---- */
+
+static size_t summary_size(const struct format *format)
+{
+    return CARD * format->count + LIST_CARD * (LAST_LINE_LIST + 1);
+}
+
+static uint8_t *list_cards(const struct format *format, uint8_t *summary)
+{
+    return summary + CARD * format->count;
+}
+
+static void put_list_card(uint8_t *card, const uint8_t *list)
+{
+    struct plain_reason reason = plain_line_list(list);
+    card[LIST_REASON] = reason.number;
+    card[LIST_EXPECTED] = reason.expected;
+    card[LIST_MARKS] = (uint8_t)(reason.number == PLAIN_GOOD ? plain_marks(list) : 0);
+    card[LIST_MARKS + 1] = 0;
+}
+
+/* The card of a sequence taken alone, with the line lists as their cards have them. */
+static void put_card(const struct format *format, uint8_t *card, const uint8_t *text, const uint8_t *carded)
+{
+    struct finding f;
+    unsigned code = check_sequence(format, text, &(struct line_lists){NULL, carded}, &f);
+
+    memset(card, 0, CARD);
+    put_total(card + CARD_USED, f.used);
+    if (code != 0) {
+        card[CARD_FAULT] = 1;
+        card[CARD_PLACE] = (uint8_t)f.place;
+        card[CARD_CODE] = (uint8_t)code;
+        card[CARD_REASON] = f.reason.number;
+        card[CARD_EXPECTED] = f.reason.expected;
+        return;
+    }
+    card[CARD_CLOSING] = f.next == NONE ? ENDS : CALLS;
+    card[CARD_TARGET] = (uint8_t)(f.next == NONE ? 0 : f.next);
+    put_total(card + CARD_STEPS, f.steps);
+    put_total(card + CARD_EXPOSURES, f.exposures);
+}
+
+/* The cards of line lists, from one to another. */
+static void put_list_cards(const struct format *format, const uint8_t *lists, uint8_t *summary, unsigned from,
+                           unsigned to)
+{
+    uint8_t *cards = list_cards(format, summary);
+    for (unsigned i = from; i <= to; i++)
+        put_list_card(cards + LIST_CARD * i, lists + LINE_LIST_ENTRY * i);
+}
+
+/* The cards of sequences, from one to another. */
+static void put_cards(const struct format *format, const uint8_t *seqs, uint8_t *summary, unsigned from, unsigned to)
+{
+    for (unsigned i = from; i <= to; i++)
+        put_card(format, summary + CARD * i, sequence_of(format, seqs, i), list_cards(format, summary));
+}
+
+/* The cards of all sequences that use a line list from one to another. */
+static void put_users(const struct format *format, const uint8_t *seqs, uint8_t *summary, unsigned from, unsigned to)
+{
+    uint64_t touched = 0;
+    for (unsigned i = from; i <= to; i++)
+        touched |= list_bit(i);
+    for (unsigned i = 0; i < format->count; i++)
+        if ((total(summary + CARD * i + CARD_USED) & touched) != 0)
+            put_cards(format, seqs, summary, i, i);
+}
+
+static bool lent_well(const struct format *format, size_t seqs_len, size_t lists_len, size_t summary_len)
+{
+    return format != NULL && seqs_len == PLAIN_SEQUENCES && lists_len == PLAIN_LINE_LISTS &&
+           summary_len == summary_size(format);
+}
+
+uint32_t plain_cards(uint32_t kind, const uint8_t *seqs, size_t seqs_len, const uint8_t *lists, size_t lists_len,
+                     uint8_t *summary, size_t summary_len)
+{
+    const struct format *format = format_of(kind);
+
+    if (!lent_well(format, seqs_len, lists_len, summary_len))
+        return BAD_SIZES;
+    put_list_cards(format, lists, summary, 0, LAST_LINE_LIST);
+    put_cards(format, seqs, summary, 0, format->count - 1);
+    return 0;
+}
+
+uint32_t plain_cards_update(uint32_t kind, const uint8_t *seqs, size_t seqs_len, const uint8_t *lists,
+                            size_t lists_len, uint8_t *summary, size_t summary_len, uint32_t address, uint32_t count)
+{
+    const struct format *format = format_of(kind);
+    uint32_t last = address + count - 1;
+
+    if (!lent_well(format, seqs_len, lists_len, summary_len))
+        return BAD_SIZES;
+    if (count < 1 || count > LONGEST_UPLINK)
+        return BAD_RANGE;
+    if (in_sequences(address, count)) {
+        put_cards(format, seqs, summary, (address - SEQUENCES_AT) / format->entry,
+                  (last - SEQUENCES_AT) / format->entry);
+    } else if (in_line_lists(address, count)) {
+        unsigned from = (address - LINE_LISTS_AT) / LINE_LIST_ENTRY, to = (last - LINE_LISTS_AT) / LINE_LIST_ENTRY;
+        put_list_cards(format, lists, summary, from, to);
+        put_users(format, seqs, summary, from, to);
+    } else {
+        return BAD_RANGE;
+    }
+    return 0;
+}
+
+/* Whether tables can give a card, as far as the chain check looks at it. */
+static bool card_good(const struct format *format, const uint8_t *card)
+{
+    if (card[CARD_FAULT] == 1)
+        return true;
+    if (card[CARD_FAULT] != 0 || (card[CARD_CLOSING] != ENDS && card[CARD_CLOSING] != CALLS))
+        return false;
+    if (card[CARD_CLOSING] == CALLS && card[CARD_TARGET] >= format->count)
+        return false;
+    return (total(card + CARD_STEPS) | total(card + CARD_EXPOSURES)) >> TOTAL_BITS == 0;
+}
+
+/* The fault of a card; a number that is no reason's stands for a mark, and a checksum alone has a value. */
+static uint32_t report_card(uint8_t *report, unsigned sequence, const uint8_t *card)
+{
+    struct finding f = {.place = card[CARD_PLACE], .reason = {card[CARD_REASON], 0}};
+    if (f.reason.number > PLAIN_MARK)
+        f.reason.number = PLAIN_MARK;
+    if (f.reason.number == PLAIN_CHECKSUM)
+        f.reason.expected = card[CARD_EXPECTED];
+    return report_fault(report, card[CARD_CODE], sequence, &f);
+}
+
+uint32_t plain_cards_check(uint32_t kind, const uint8_t *summary, size_t summary_len, uint32_t number,
+                           uint8_t *report, size_t report_len)
+{
+    const struct format *format = format_of(kind);
+    bool listed[MOST_SEQUENCES] = {false};
+    uint64_t steps = 0, exposures = 0;
+    unsigned count = 0, sequence = number;
+
+    if (report_len != PLAIN_REPORT)
+        return BAD_SIZES;
+    memset(report, 0, PLAIN_REPORT);
+    if (format == NULL || summary_len != summary_size(format))
+        return report[0] = BAD_SIZES;
+    if (number >= format->count)
+        return report[0] = BAD_RANGE;
+
+    for (;;) {
+        const uint8_t *card = summary + CARD * sequence;
+
+        if (!card_good(format, card)) {
+            memset(report, 0, PLAIN_REPORT);
+            return report[0] = BAD_STATE;
+        }
+        listed[sequence] = true;
+        report[CHAIN + count++] = (uint8_t)sequence;
+        put_word(report + 6, count);
+        if (card[CARD_FAULT])
+            return report_card(report, sequence, card);
+        steps += total(card + CARD_STEPS);
+        exposures += total(card + CARD_EXPOSURES);
+        if (card[CARD_CLOSING] == ENDS)
+            return report_pass(report, PLAIN_ENDS, steps, exposures);
+        if (listed[card[CARD_TARGET]])
+            return report_pass(report, PLAIN_RETURNS, steps, exposures);
+        sequence = card[CARD_TARGET];
+    }
 }

@@ -1,8 +1,8 @@
 /*
  * The control unit in plain C, written from document 01 alone, P4's reasons, P1's marks, P10's kinds,
- * P5's shift and P14's comparison added: it shares no text with the proved library, and stands beside it to
- * be compared. The four calls, the lent bytes and the answers are those of keel.h, under other names; the
- * comparison, the test of a line list and its marks are for the desk's table check.
+ * P5's shift, P14's comparison and P13's cards added: it shares no text with the proved library, and stands
+ * beside it to be compared. The four calls, those of the cards, the lent bytes and the answers are those of
+ * keel.h, under other names; the comparison, the test of a line list and its marks are for the desk's table check.
  */
 #ifndef PLAIN_H
 #define PLAIN_H
@@ -16,7 +16,9 @@ enum {
     PLAIN_SEQUENCES = 16384,
     PLAIN_LINE_LISTS = 7872,
     PLAIN_OUTPUT = 16384,
-    PLAIN_REPORT = 152
+    PLAIN_REPORT = 152,
+    PLAIN_CARDS = 4288,    /* the summary of tables of the new kind: 128 cards of 32 bytes and 48 of 4 */
+    PLAIN_OLD_CARDS = 2240 /* and of the old kind: 64 and 48 */
 };
 
 /* The kinds of sequence table, all of one size: 128 entries of 128 bytes, or the old unit's 64 of 256.
@@ -90,6 +92,32 @@ uint32_t plain_still(uint32_t kind,
                      const uint8_t *now_lists, size_t now_lists_len,
                      uint32_t number,
                      uint8_t *report, size_t report_len);
+
+/* Makes the summary: the cards of all sequences, each taken alone, and of all line lists. Answers 0, or 16.
+ * A sequence's card: 0: 0 it passes, 1 fault; 1 the fault's place; 2 its code; 3 the closing command (0 of a
+ * fault, 1 terminate, 2 call); 4 its target; 5-6 the reason as in bytes 4-5 of a report; 8-15 steps; 16-23
+ * exposures; 24-29 the line lists that its rasters were tested with, one at fault too, list 0 the most significant
+ * bit; else 0. A line list's: 0-1 the reason; 2 its marks if it is good; else 0. */
+uint32_t plain_cards(uint32_t kind,
+                     const uint8_t *seqs, size_t seqs_len,
+                     const uint8_t *lists, size_t lists_len,
+                     uint8_t *summary, size_t summary_len);
+
+/* Works out again, after an obeyed uplink of this range, the cards of the entries that have a byte in it and of
+ * the sequences that, by their own cards, use such a line list; no other byte of the summary is written. Answers 0,
+ * 16, or 7 for a range that no uplink can have. */
+uint32_t plain_cards_update(uint32_t kind,
+                            const uint8_t *seqs, size_t seqs_len,
+                            const uint8_t *lists, size_t lists_len,
+                            uint8_t *summary, size_t summary_len,
+                            uint32_t address, uint32_t count);
+
+/* What plain_check answers and reports of the tables that the summary is of, told from the cards alone; 17, with
+ * nothing listed, where the chain comes to a card that no tables give. */
+uint32_t plain_cards_check(uint32_t kind,
+                           const uint8_t *summary, size_t summary_len,
+                           uint32_t number,
+                           uint8_t *report, size_t report_len);
 
 /* Tests a line list, in its entry of 164 bytes. */
 struct plain_reason plain_line_list(const uint8_t *list);

@@ -13,7 +13,7 @@
 #   baseline         the same as bench, and its rows are kept in compare/baseline.txt
 #   vectors FOLDER   the proved programs on the folder's desk-N.in and tables-N.bin; says how many are equal, the reasons of faults
 #                    with code 7 left out, and how many were moved by P1's and P5's rules: those that are as the plain programs
-#                    have them. Then tablecheck on its core-new-N.bin and core-old-N.bin: these are equal to the byte
+#                    have them. Then tablecheck on its core-new-N.bin and core-old-N.bin, and the plain program that prints a summary: these are equal to the byte
 #   counts           one table of instructions, proved and plain, counted by the emulator: the same on every machine that has it
 #   unproved STAGE.. library, bench and counts take the library as its sources stand, compiled without its proofs
 # All programs are for x86-64, built by the same compiler as the proved ones, and run with its C library;
@@ -52,15 +52,17 @@ assemble() { # PROGRAM FILE..
 }
 
 as_keel=(-Dplain_power_on=keel_power_on -Dplain_packet=keel_packet -Dplain_step=keel_step -Dplain_check=keel_check
-    -Dplain_still=keel_still -Dplain_line_list=keel_line_list -Dplain_marks=keel_marks)
+    -Dplain_still=keel_still -Dplain_line_list=keel_line_list -Dplain_marks=keel_marks
+    -Dplain_cards=keel_cards -Dplain_cards_update=keel_cards_update -Dplain_cards_check=keel_cards_check)
 
 build_plain() {
     mkdir -p "$build"
-    for name in plain make plain_desk plain_survey made turns; do
+    for name in plain make plain_desk plain_survey plain_cards made turns; do
         compile "$build/$name.o" "$here/$name.c"
     done
     assemble "$build/plain_desk" "$build/plain_desk.o" "$build/plain.o"
     assemble "$build/plain_survey" "$build/plain_survey.o" "$build/plain.o"
+    assemble "$build/plain_cards" "$build/plain_cards.o" "$build/plain.o"
     assemble "$build/made" "$build/made.o" "$build/make.o" "$build/plain.o"
     assemble "$build/turns" "$build/turns.o"
 }
@@ -234,15 +236,15 @@ stage_counts() {
     local row name things side one
     [ -n "$emulated" ] || { echo "run.sh: counts wants the emulator" >&2; return 2; }
     build_library
-    for row in {0..22}; do
+    for row in {0..26}; do
         IFS=$'\t' read -r name things < <(run "$build/library/bench" "$row" k 0)
         one="$name"
         for side in k p; do
             one+=$'\t'$((($(instructions "$row" "$side" 3) - $(instructions "$row" "$side" 1)) / 2 / things))
         done
         echo "$one"
-    done | awk -F '\t' 'BEGIN { printf "%-36s %10s %10s %7s\n", "instructions", "proved", "plain", "ratio" }
-        { printf "%-36s %10d %10d %7.2f\n", $1, $2, $3, $2 / $3 }'
+    done | awk -F '\t' 'BEGIN { printf "%-49s %10s %10s %7s\n", "instructions", "proved", "plain", "ratio" }
+        { printf "%-49s %10d %10d %7.2f\n", $1, $2, $3, $2 / $3 }'
 }
 
 # The two desks on one script, with these words as arguments.
@@ -352,13 +354,14 @@ vector() { # PROGRAM PLAIN INPUT WANTED
     fi
 }
 
-# Runs tablecheck with these words on INPUT and counts it. Its .check file has all requests' rules and the reasons: equal to the byte.
-core_vector() { # INPUT WORD..
+# Runs PROGRAM with these words on INPUT and counts it. Its file of this ENDING has all requests' rules and the reasons: equal to the
+# byte.
+core_vector() { # PROGRAM ENDING INPUT WORD..
     all=$((all + 1))
-    if run target/bin/tablecheck "${@:2}" <"$1" | cmp -s - "${1%.bin}.check"; then
+    if run "$1" "${@:4}" <"$3" | cmp -s - "${3%.bin}.$2"; then
         equal=$((equal + 1))
     else
-        echo "${1##*/}: not equal"
+        echo "${3##*/}: not equal to its .$2"
     fi
 }
 
@@ -370,8 +373,14 @@ stage_vectors() { # FOLDER
         number=${file##*/tables-}
         vector tablecheck plain_survey "$file" "$1/survey-${number%.bin}.out"
     done
-    for file in "$1"/core-new-*.bin; do core_vector "$file"; done
-    for file in "$1"/core-old-*.bin; do core_vector "$file" old; done
+    for file in "$1"/core-new-*.bin; do
+        core_vector target/bin/tablecheck check "$file"
+        core_vector "$build/plain_cards" cards "$file"
+    done
+    for file in "$1"/core-old-*.bin; do
+        core_vector target/bin/tablecheck check "$file" old
+        core_vector "$build/plain_cards" cards "$file" old
+    done
     echo "vectors: $equal of $all equal, document 01's but for the reasons at the ends of the faults with code 7;" \
         "$moved moved by P1's and P5's rules, as the plain programs have them"
     [ $((equal + moved)) = "$all" ]

@@ -3,7 +3,7 @@
 BEGIN {
     FS = "\t"
     over = missing = ""
-    printf "%-36s %13s %13s %7s %5s %7s\n", "nanoseconds", "proved", "plain", "ratio", "bar", "change"
+    printf "%-49s %13s %13s %7s %5s %7s\n", "nanoseconds", "proved", "plain", "ratio", "bar", "change"
 }
 /^#/ { next }
 FILENAME == ARGV[1] { bar[$1] = $2; next }
@@ -12,7 +12,7 @@ FILENAME == ARGV[2] { before[$1] = $2 / $3; next }
     seen[$1] = 1
     ratio = $2 / $3
     change = $1 in before ? sprintf("%+.0f%%", 100 * (ratio / before[$1] - 1)) : "-"
-    printf "%-36s %13.1f %13.1f %7.2f %5s %7s\n", $1, $2, $3, ratio, $1 in bar ? bar[$1] : "-", change
+    printf "%-49s %13.1f %13.1f %7.2f %5s %7s\n", $1, $2, $3, ratio, $1 in bar ? bar[$1] : "-", change
     if ($1 in bar && ratio > bar[$1]) over = over (over == "" ? "" : "; ") $1 sprintf(" %.2f (%s)", ratio, bar[$1])
 }
 END {

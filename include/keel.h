@@ -35,6 +35,8 @@ extern "C" {
 #define KEEL_LINE_LIST_TABLE 7872
 #define KEEL_OUTPUT_SIZE 16384
 #define KEEL_REPORT_SIZE 152
+#define KEEL_CARDS_SIZE 4288
+#define KEEL_CARDS_SIZE_BENCH 2240
 
 /* The state at power-on. Answers 0, or 16. */
 uint32_t keel_power_on(uint8_t *state, uintptr_t state_len);
@@ -56,6 +58,24 @@ uint64_t keel_step(uint32_t kind, uint8_t *state, uintptr_t state_len, const uin
    after it. */
 uint32_t keel_check(uint32_t kind, const uint8_t *seqs, uintptr_t seqs_len, const uint8_t *lists, uintptr_t lists_len, uint32_t number,
                     uint8_t *report, uintptr_t report_len);
+
+/* The summary of both tables, made whole: 4,288 bytes of kind 0, 2,240 of kind 1. Answers 0, or 16 with nothing written (also for a summary
+   of another size). For each sequence a card of 32 bytes: 0: 0 passes, 1 fault; 1 the fault's place; 2 its code; 3: 0 none, 1 terminates,
+   2 calls; 4 the sequence called; 5 and 6 a fault's reason, as 4 and 5 of a report; 7 zero; 8-15 steps; 16-23 exposures, high byte first;
+   24-29 the line lists used, list 0 the most significant bit; 30-31 zero. Then for each of the 48 line lists a card of 4 bytes: 0 good, else
+   what is wrong, as 4 of a report; the checksum expected; marks, 10 AEC, 08 event, 04 flare; zero. */
+uint32_t keel_cards(uint32_t kind, const uint8_t *seqs, uintptr_t seqs_len, const uint8_t *lists, uintptr_t lists_len, uint8_t *summary,
+                    uintptr_t summary_len);
+
+/* The summary brought up to date after an obeyed uplink of count bytes at an address: a summary that was as keel_cards makes it is so again.
+   Answers 0, or 16, or 7 for a range that no uplink can have, with nothing written. */
+uint32_t keel_cards_update(uint32_t kind, const uint8_t *seqs, uintptr_t seqs_len, const uint8_t *lists, uintptr_t lists_len,
+                           uint8_t *summary, uintptr_t summary_len, uint32_t address, uint32_t count);
+
+/* The table check of a sequence from the summary alone, with keel_check's report; 17, with nothing listed, for a card on the way that no
+   tables give. */
+uint32_t keel_cards_check(uint32_t kind, const uint8_t *summary, uintptr_t summary_len, uint32_t number, uint8_t *report,
+                          uintptr_t report_len);
 
 #ifdef __cplusplus
 }

@@ -10,6 +10,7 @@ use Rattle.octets.specs.Bytes.{two, eight}
 use Rattle.memory.specs.declared.Format.{Format}
 use Rattle.survey.specs.Chain.{Told, checkOf}
 use Rattle.survey.specs.Report.{endingShown, reasonOf, reasonShown, padded}
+use Rattle.summary.specs.Chain.{checkCards}
 
 unfoldable pub reportBytes : Told → List ℕ
 reportBytes t =
@@ -20,9 +21,23 @@ reportBytes t =
 abbrev pub reportSized : List ℕ → Bool
 reportSized r = eqb (length r) 152
 
--- "another size: 16, untouched"
+-- "another size: 16, untouched": the answer to a check that tells this, and the report after it
+unfoldable pub toldAnswer : Told → List ℕ → ℕ
+toldAnswer t r = cond (reportSized r) (endingShown (t .ending) .code) 16
+
+unfoldable pub toldReport : Told → List ℕ → List ℕ
+toldReport t r = cond (reportSized r) (reportBytes t) r
+
+-- of the table check
 unfoldable pub checkAnswer : Format → List ℕ → List ℕ → ℕ → List ℕ → ℕ
-checkAnswer F seqs lists n r = cond (reportSized r) (endingShown (checkOf F seqs lists n .ending) .code) 16
+checkAnswer F seqs lists n r = toldAnswer (checkOf F seqs lists n) r
 
 unfoldable pub reportAfter : Format → List ℕ → List ℕ → ℕ → List ℕ → List ℕ
-reportAfter F seqs lists n r = cond (reportSized r) (reportBytes (checkOf F seqs lists n)) r
+reportAfter F seqs lists n r = toldReport (checkOf F seqs lists n) r
+
+-- of the check from cards alone
+unfoldable pub cardsAnswer : Format → List ℕ → ℕ → List ℕ → ℕ
+cardsAnswer F s n r = toldAnswer (checkCards F s n) r
+
+unfoldable pub cardsReport : Format → List ℕ → ℕ → List ℕ → List ℕ
+cardsReport F s n r = toldReport (checkCards F s n) r

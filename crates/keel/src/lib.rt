@@ -2,13 +2,13 @@
 ghost use mathlib.Core.Path.{_≡_};
 ghost use Prim.Native.Nat.{_+_, _*_, _≤_, _^_};
 ghost use lib.ListN.{length};
-ghost use Rattle.octets.specs.Bytes.{eight};
 ghost use Rattle.memory.specs.Memory.{formatOf};
 ghost use Rattle.runner.specs.Events.{shownAs};
 ghost use Rattle.survey.specs.Chain.{Told};
 ghost use Rattle.survey.specs.Report.{endingShown, reasonOf, reportOf};
 ghost use Rattle.keel.specs.Calls.{heldCode, powerCode, poweredOn, packetAnswer, stateAfter, keptSeqs, keptLists, keptOut, packed, deniedAs, stepAnswer, stateStepped};
-ghost use Rattle.keel.specs.Report.{reportBytes, checkAnswer, reportAfter};
+ghost use Rattle.summary.specs.Summary.{makeCode, made, updateCode, updated};
+ghost use Rattle.keel.specs.Report.{reportBytes, checkAnswer, reportAfter, cardsAnswer, cardsReport};
 use memory::Format;
 use runner::Event;
 use runner::Runner;
@@ -206,22 +206,6 @@ fn reason_of(ending: Ending) -> Reason
     }
 }
 
-// A number in eight bytes, high byte first.
-fn eight(n: u64) -> [u8; 8]
-    ensures { λ r. ⌜ r ≡ eight n ⌝ }
-{
-    [
-        (n / 72057594037927936 % 256) as u8,
-        (n / 281474976710656 % 256) as u8,
-        (n / 1099511627776 % 256) as u8,
-        (n / 4294967296 % 256) as u8,
-        (n / 16777216 % 256) as u8,
-        (n / 65536 % 256) as u8,
-        (n / 256 % 256) as u8,
-        (n % 256) as u8,
-    ]
-}
-
 // Writes what a check found over the bytes of a report, and gives its code.
 fn tell(found: Report, report: &mut [u8]) -> u8
     requires { ⌜ length (now report) ≡ 152 ⌝ }
@@ -241,8 +225,8 @@ fn tell(found: Report, report: &mut [u8]) -> u8
         (found.count / 256 % 256) as u8,
         (found.count % 256) as u8,
     ];
-    let steps = eight(found.steps);
-    let exposures = eight(found.exposures);
+    let steps = octets::eight(found.steps);
+    let exposures = octets::eight(found.exposures);
     let listed = found.listed;
     memory::write(report, 0, &head);
     memory::write(report, 8, &steps);
@@ -267,4 +251,41 @@ pub extern "C" fn keel_check(
         return 16;
     }
     tell(survey::check(kind, seqs, lists, number), report) as u32
+}
+
+// The summary of both tables, made whole: 0, or 16 with nothing written.
+#[no_mangle]
+pub extern "C" fn keel_cards(kind: u32, seqs: &[u8], lists: &[u8], summary: &mut [u8]) -> u32
+    ensures { λ r. ⌜ r ≡ makeCode (formatOf kind) (now (seqs .entry)) (now (lists .entry)) (now (summary .entry)) ⌝ }
+    ensures { λ _. ⌜ now (summary .exit) ≡ made (formatOf kind) (now (seqs .entry)) (now (lists .entry)) (now (summary .entry)) ⌝ }
+{
+    summary::make(kind, seqs, lists, summary) as u32
+}
+
+// The summary brought up to date after an obeyed uplink of so many bytes at an address: 0, or 16 or 7 with nothing written.
+#[no_mangle]
+pub extern "C" fn keel_cards_update(
+    kind: u32,
+    seqs: &[u8],
+    lists: &[u8],
+    summary: &mut [u8],
+    address: u32,
+    count: u32,
+) -> u32
+    ensures { λ r. ⌜ r ≡ updateCode (formatOf kind) (now (seqs .entry)) (now (lists .entry)) (now (summary .entry)) address count ⌝ }
+    ensures { λ _. ⌜ now (summary .exit) ≡ updated (formatOf kind) (now (seqs .entry)) (now (lists .entry)) (now (summary .entry)) address count ⌝ }
+{
+    summary::update(kind, seqs, lists, summary, address, count) as u32
+}
+
+// The table check of a sequence from a summary alone: its code, and its report of 152 bytes.
+#[no_mangle]
+pub extern "C" fn keel_cards_check(kind: u32, summary: &[u8], number: u32, report: &mut [u8]) -> u32
+    ensures { λ r. ⌜ r ≡ cardsAnswer (formatOf kind) (now (summary .entry)) number (now (report .entry)) ⌝ }
+    ensures { λ _. ⌜ now (report .exit) ≡ cardsReport (formatOf kind) (now (summary .entry)) number (now (report .entry)) ⌝ }
+{
+    if report.len() != REPORT {
+        return 16;
+    }
+    tell(summary::check(kind, summary, number), report) as u32
 }

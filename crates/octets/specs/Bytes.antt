@@ -1,5 +1,5 @@
 -- Bytes, words high byte first, in and out, their bits, counters, and the XOR of bytes.
-use Prim.Native.Nat.{ℕ, _+_, _*_, _-_, _/_, _%_, _^_}
+use Prim.Native.Nat.{ℕ, zero, suc, _+_, _*_, _-_, _/_, _%_, _^_}
 use mathlib.Core.Bool.{Bool}
 use mathlib.Core.List.{List, [], _∷_}
 use lib.Dec.{eqb}
@@ -40,6 +40,11 @@ eight n =
     ∷ n / 2 ^ 8 % 256
     ∷ n % 256
     ∷ []
+
+-- the number in so many bytes from a place on, high byte first
+abbrev pub numberAt : List ℕ → ℕ → ℕ → ℕ
+numberAt s at zero = 0
+numberAt s at (suc width) = numberAt s at width * 256 + byteAt s (at + width)
 
 -- "Bit 0 is the most significant bit": whether bit b of a byte, or of a word, is set
 abbrev pub byteBit : ℕ → ℕ → Bool

@@ -3,7 +3,7 @@ ghost use Prim.Native.Nat.{_+_, _*_};
 ghost use mathlib.Core.Path.{_≡_};
 ghost use mathlib.Core.Bool.{cond, _&&_, _||_};
 ghost use lib.ListN.{take, drop};
-ghost use Rattle.octets.specs.Bytes.{byteAt, wordAt, tripleAt, counted, xorOn};
+ghost use Rattle.octets.specs.Bytes.{byteAt, wordAt, tripleAt, eight, counted, xorOn};
 
 // The byte at a place, or 0 past the end.
 pub fn byte(s: &[u8], at: usize) -> u8
@@ -39,6 +39,22 @@ pub fn triple(s: &[u8], at: usize) -> u32
     } else {
         0
     }
+}
+
+// A number in eight bytes, high byte first.
+pub fn eight(n: u64) -> [u8; 8]
+    ensures { λ r. ⌜ r ≡ eight n ⌝ }
+{
+    [
+        (n / 72057594037927936 % 256) as u8,
+        (n / 281474976710656 % 256) as u8,
+        (n / 1099511627776 % 256) as u8,
+        (n / 4294967296 % 256) as u8,
+        (n / 16777216 % 256) as u8,
+        (n / 65536 % 256) as u8,
+        (n / 256 % 256) as u8,
+        (n % 256) as u8,
+    ]
 }
 
 // The part of a slice from a place on, of a length, as far as the slice goes: the slice's own bytes.

@@ -29,6 +29,7 @@ pub mod Sentences
 pub mod Demand3
 pub mod EveryLap
 pub mod Stays
+pub mod Cards
 pub mod Decided
 pub mod EveryFormat
 pub mod Flags

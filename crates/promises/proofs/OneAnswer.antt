@@ -5,6 +5,7 @@ use Rattle.promises.specs.OneAnswer.{
   OneOctetsByte,
   OneOctetsWord,
   OneOctetsTriple,
+  OneOctetsEight,
   OneOctetsPart,
   OneOctetsCounted,
   OneOctetsXorOn,
@@ -51,12 +52,23 @@ use Rattle.promises.specs.OneAnswer.{
   OneSequenceBadListShown,
   OneSequenceListCardShown,
   OneSequenceListCardMarks,
+  OneSequenceListCardBytes,
+  OneSequenceKeptCard,
+  OneSequenceCardOf,
   OneSequencePast,
   OneSequenceTargetGood,
   OneRunnerJudge,
+  OneRunnerTestsList,
   OneRunnerRunnerStep,
   OneSurveyCheck,
   OneSurveyCheckOne,
+  OneSurveyTakenAlone,
+  OneSurveyHasList,
+  OneSurveyEmpty,
+  OneSurveyTotal,
+  OneSummaryMake,
+  OneSummaryUpdate,
+  OneSummaryCheck,
   OneSurveyReasonShown,
   OneSurveyStill,
   OneTelecommandTelecommandOf,
@@ -106,6 +118,9 @@ use Rattle.promises.specs.OneAnswer.{
   OneKeelKeelPacket,
   OneKeelKeelStep,
   OneKeelKeelCheck,
+  OneKeelKeelCards,
+  OneKeelKeelCardsUpdate,
+  OneKeelKeelCardsCheck,
 }
 
 -- ── octets
@@ -117,6 +132,9 @@ one-result-octets-word κs a r r′ e e′ p q = p ∙ sym q
 
 pub one-result-octets-triple : OneOctetsTriple
 one-result-octets-triple κs a r r′ e e′ p q = p ∙ sym q
+
+pub one-result-octets-eight : OneOctetsEight
+one-result-octets-eight κs a r r′ e e′ p q = p ∙ sym q
 
 pub one-result-octets-part : OneOctetsPart
 one-result-octets-part κs a r r′ e e′ p q = p ∙ sym q
@@ -264,6 +282,15 @@ one-result-sequence-ListCard-shown κs a r r′ e e′ p q = p ∙ sym q
 pub one-result-sequence-ListCard-marks : OneSequenceListCardMarks
 one-result-sequence-ListCard-marks κs a r r′ e e′ p q = p ∙ sym q
 
+pub one-result-sequence-ListCard-bytes : OneSequenceListCardBytes
+one-result-sequence-ListCard-bytes κs a r r′ e e′ p q = p ∙ sym q
+
+pub one-result-sequence-kept-card : OneSequenceKeptCard
+one-result-sequence-kept-card κs a r r′ e e′ p q = p ∙ sym q
+
+pub one-result-sequence-card-of : OneSequenceCardOf
+one-result-sequence-card-of κs a r r′ e e′ p q = p ∙ sym q
+
 pub one-result-sequence-past : OneSequencePast
 one-result-sequence-past κs a r r′ e e′ p q = p ∙ sym q
 
@@ -273,6 +300,9 @@ one-result-sequence-target-good κs a r r′ e e′ p q = p ∙ sym q
 -- ── runner
 pub one-result-runner-judge : OneRunnerJudge
 one-result-runner-judge κs a r r′ e e′ p q = p .0 ∙ sym (q .0)
+
+pub one-result-runner-tests-list : OneRunnerTestsList
+one-result-runner-tests-list κs a r r′ e e′ p q = p ∙ sym q
 
 pub one-result-runner-Runner-step : OneRunnerRunnerStep
 one-result-runner-Runner-step κs a r r′ e e′ p q = p ∙ sym q
@@ -284,11 +314,33 @@ one-result-survey-check κs a r r′ e e′ p q = p ∙ sym q
 pub one-result-survey-check-one : OneSurveyCheckOne
 one-result-survey-check-one κs a r r′ e e′ p q = p ∙ sym q
 
+pub one-result-survey-taken-alone : OneSurveyTakenAlone
+one-result-survey-taken-alone κs a r r′ e e′ p q = p ∙ sym q
+
+pub one-result-survey-has-list : OneSurveyHasList
+one-result-survey-has-list κs a r r′ e e′ p q = p ∙ sym q
+
+pub one-result-survey-empty : OneSurveyEmpty
+one-result-survey-empty κs a r r′ e e′ p q = p ∙ sym q
+
+pub one-result-survey-total : OneSurveyTotal
+one-result-survey-total κs a r r′ e e′ p q = p ∙ sym q
+
 pub one-result-survey-Reason-shown : OneSurveyReasonShown
 one-result-survey-Reason-shown κs a r r′ e e′ p q = p ∙ sym q
 
 pub one-result-survey-still : OneSurveyStill
 one-result-survey-still κs a r r′ e e′ p q = p ∙ sym q
+
+-- ── summary
+pub one-result-summary-make : OneSummaryMake
+one-result-summary-make κs a r r′ e e′ p q = λ i. ((p .0 ∙ sym (q .0)) i, (p .1 ∙ sym (q .1)) i)
+
+pub one-result-summary-update : OneSummaryUpdate
+one-result-summary-update κs a r r′ e e′ p q = λ i. ((p .0 ∙ sym (q .0)) i, (p .1 ∙ sym (q .1)) i)
+
+pub one-result-summary-check : OneSummaryCheck
+one-result-summary-check κs a r r′ e e′ p q = p ∙ sym q
 
 -- ── telecommand
 pub one-result-telecommand-telecommand-of : OneTelecommandTelecommandOf
@@ -431,3 +483,12 @@ one-result-keel-keel-step κs a r r′ e e′ p q = λ i. ((p .0 ∙ sym (q .0))
 
 pub one-result-keel-keel-check : OneKeelKeelCheck
 one-result-keel-keel-check κs a r r′ e e′ p q = λ i. ((p .0 ∙ sym (q .0)) i, (p .1 ∙ sym (q .1)) i)
+
+pub one-result-keel-keel-cards : OneKeelKeelCards
+one-result-keel-keel-cards κs a r r′ e e′ p q = λ i. ((p .0 ∙ sym (q .0)) i, (p .1 ∙ sym (q .1)) i)
+
+pub one-result-keel-keel-cards-update : OneKeelKeelCardsUpdate
+one-result-keel-keel-cards-update κs a r r′ e e′ p q = λ i. ((p .0 ∙ sym (q .0)) i, (p .1 ∙ sym (q .1)) i)
+
+pub one-result-keel-keel-cards-check : OneKeelKeelCardsCheck
+one-result-keel-keel-cards-check κs a r r′ e e′ p q = λ i. ((p .0 ∙ sym (q .0)) i, (p .1 ∙ sym (q .1)) i)

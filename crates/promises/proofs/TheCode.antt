@@ -1,5 +1,5 @@
 -- The demands, for the code: the contracts are equations with what the demands name. Assumes nothing.
-use Rattle.promises.specs.TheCode.{PowerOnIs, PacketIs, StepIs, RunIs, CheckIs, StillIs, WindowCodeIs, WindowIs, OutOfRangeIs, TelecommandIs}
+use Rattle.promises.specs.TheCode.{PowerOnIs, PacketIs, StepIs, RunIs, CheckIs, StillIs, MakeIs, UpdateIs, CardsCheckIs, WindowCodeIs, WindowIs, OutOfRangeIs, TelecommandIs}
 
 pub power-on-is : PowerOnIs
 power-on-is κs args result exit learnt = learnt
@@ -18,6 +18,15 @@ check-is κs args result exit learnt = learnt
 
 pub still-is : StillIs
 still-is κs args result exit learnt = learnt
+
+pub make-is : MakeIs
+make-is κs args result exit learnt = learnt
+
+pub update-is : UpdateIs
+update-is κs args result exit learnt = learnt
+
+pub cards-check-is : CardsCheckIs
+cards-check-is κs args result exit learnt = learnt
 
 pub window-code-is : WindowCodeIs
 window-code-is κs args result exit learnt = learnt

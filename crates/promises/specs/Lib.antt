@@ -8,6 +8,7 @@ pub mod Demand3
 pub mod Flags
 pub mod EachCheck
 pub mod Stays
+pub mod Cards
 pub mod Sent
 pub mod Demand1
 pub mod Demand2

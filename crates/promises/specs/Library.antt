@@ -11,6 +11,8 @@ use Rattle.runner.specs.Step.{stepOf}
 use Rattle.survey.specs.declared.Standing.{Standing}
 use Rattle.survey.specs.Chain.{Told, checkOf}
 use Rattle.survey.specs.Still.{stillOf}
+use Rattle.summary.specs.Summary.{makeCode, made, updateCode, updated}
+use Rattle.summary.specs.Chain.{checkCards}
 use Rattle.unit.specs.declared.Unit.{Unit as ControlUnit}
 use Rattle.unit.specs.declared.UnitStep.{UnitStep}
 use Rattle.unit.specs.declared.Answer.{Answer}
@@ -35,6 +37,13 @@ pub record Library : Type 0 where
   pub checks : Format → List ℕ → List ℕ → ℕ → Told
   -- whether the check's pass over tables of a format stands over others, those of now
   pub still : Format → List ℕ → List ℕ → List ℕ → List ℕ → ℕ → Standing
+  -- the summary of cards, over lent bytes: the code and what is left of it, once it was to be made of tables of a format, and once it was to be brought up to date
+  -- after an uplink of so many bytes from an address on; and what the check from a summary tells of a chain
+  pub makesCode : Format → List ℕ → List ℕ → List ℕ → ℕ
+  pub makes : Format → List ℕ → List ℕ → List ℕ → List ℕ
+  pub updatesCode : Format → List ℕ → List ℕ → List ℕ → ℕ → ℕ → ℕ
+  pub updates : Format → List ℕ → List ℕ → List ℕ → ℕ → ℕ → List ℕ
+  pub checksCards : Format → List ℕ → ℕ → Told
   -- what the desk is answered that asks tables of a format for an address and a length: the code, and the part that it is handed
   pub windowCode : Format → List ℕ → List ℕ → ℕ → ℕ → ℕ
   pub windowPart : Format → List ℕ → List ℕ → ℕ → ℕ → List ℕ
@@ -52,6 +61,11 @@ ours =
       runs = stepOf;
       checks = checkOf;
       still = stillOf;
+      makesCode = makeCode;
+      makes = made;
+      updatesCode = updateCode;
+      updates = updated;
+      checksCards = checkCards;
       windowCode = windowCode;
       windowPart = windowPart;
     }

@@ -28,9 +28,12 @@ use Rattle.runner.specs.declared.Act.{Act}
 use Rattle.runner.specs.declared.Runner.{Runner}
 use Rattle.runner.specs.declared.Stepped.{Stepped}
 use Rattle.survey.proofs as survey
+use Rattle.survey.specs.declared.Alone.{Alone}
+use Rattle.survey.specs.declared.Chain.{Chain}
 use Rattle.survey.specs.declared.Report.{Report}
 use Rattle.survey.specs.declared.Standing.{Standing}
 use Rattle.survey.specs.declared.Walked.{Walked}
+use Rattle.summary.proofs as summary
 use Rattle.telecommand.proofs as telecommand
 use Rattle.status.proofs as status
 use Rattle.status.specs.declared.Ledger.{Ledger}
@@ -64,6 +67,9 @@ OneOctetsWord = One ℕ octets.word.Kinds.ps octets.word.Kinds.r octets.word.Rea
 
 abbrev pub OneOctetsTriple : Type 0
 OneOctetsTriple = One ℕ octets.triple.Kinds.ps octets.triple.Kinds.r octets.triple.Reads.Learnt (λ κs r e. r)
+
+abbrev pub OneOctetsEight : Type 0
+OneOctetsEight = One (List ℕ) octets.eight.Kinds.ps octets.eight.Kinds.r octets.eight.Reads.Learnt (λ κs r e. r)
 
 abbrev pub OneOctetsPart : Type 0
 OneOctetsPart = One (List ℕ) octets.part.Kinds.ps octets.part.Kinds.r octets.part.Reads.Learnt (λ κs r e. now r)
@@ -211,6 +217,15 @@ OneSequenceListCardShown = One ReasonNumbers sequence.ListCard.shown.Kinds.ps se
 abbrev pub OneSequenceListCardMarks : Type 0
 OneSequenceListCardMarks = One Marks sequence.ListCard.marks.Kinds.ps sequence.ListCard.marks.Kinds.r sequence.ListCard.marks.Reads.Learnt (λ κs r e. r)
 
+abbrev pub OneSequenceListCardBytes : Type 0
+OneSequenceListCardBytes = One (List ℕ) sequence.ListCard.bytes.Kinds.ps sequence.ListCard.bytes.Kinds.r sequence.ListCard.bytes.Reads.Learnt (λ κs r e. r)
+
+abbrev pub OneSequenceKeptCard : Type 0
+OneSequenceKeptCard = One ListCard sequence.kept_card.Kinds.ps sequence.kept_card.Kinds.r sequence.kept_card.Reads.Learnt (λ κs r e. r)
+
+abbrev pub OneSequenceCardOf : Type 0
+OneSequenceCardOf = One ListCard sequence.card_of.Kinds.ps sequence.card_of.Kinds.r sequence.card_of.Reads.Learnt (λ κs r e. r)
+
 abbrev pub OneSequencePast : Type 0
 OneSequencePast = One ℕ sequence.past.Kinds.ps sequence.past.Kinds.r sequence.past.Reads.Learnt (λ κs r e. r)
 
@@ -220,6 +235,9 @@ OneSequenceTargetGood = One Bool sequence.target_good.Kinds.ps sequence.target_g
 -- ── runner
 abbrev pub OneRunnerJudge : Type 0
 OneRunnerJudge = One Act runner.judge.Kinds.ps runner.judge.Kinds.r runner.judge.Reads.Learnt (λ κs r e. r)
+
+abbrev pub OneRunnerTestsList : Type 0
+OneRunnerTestsList = One Bool runner.tests_list.Kinds.ps runner.tests_list.Kinds.r runner.tests_list.Reads.Learnt (λ κs r e. r)
 
 abbrev pub OneRunnerRunnerStep : Type 0
 OneRunnerRunnerStep = One Stepped runner.Runner.step.Kinds.ps runner.Runner.step.Kinds.r runner.Runner.step.Reads.Learnt (λ κs r e. r)
@@ -231,11 +249,33 @@ OneSurveyCheck = One Report survey.check.Kinds.ps survey.check.Kinds.r survey.ch
 abbrev pub OneSurveyCheckOne : Type 0
 OneSurveyCheckOne = One Walked survey.check_one.Kinds.ps survey.check_one.Kinds.r survey.check_one.Reads.Learnt (λ κs r e. r)
 
+abbrev pub OneSurveyTakenAlone : Type 0
+OneSurveyTakenAlone = One Alone survey.taken_alone.Kinds.ps survey.taken_alone.Kinds.r survey.taken_alone.Reads.Learnt (λ κs r e. r)
+
+abbrev pub OneSurveyHasList : Type 0
+OneSurveyHasList = One Bool survey.has_list.Kinds.ps survey.has_list.Kinds.r survey.has_list.Reads.Learnt (λ κs r e. r)
+
+abbrev pub OneSurveyEmpty : Type 0
+OneSurveyEmpty = One Chain survey.empty.Kinds.ps survey.empty.Kinds.r survey.empty.Reads.Learnt (λ κs r e. r)
+
+abbrev pub OneSurveyTotal : Type 0
+OneSurveyTotal = One ℕ survey.total.Kinds.ps survey.total.Kinds.r survey.total.Reads.Learnt (λ κs r e. r)
+
 abbrev pub OneSurveyReasonShown : Type 0
 OneSurveyReasonShown = One ReasonNumbers survey.Reason.shown.Kinds.ps survey.Reason.shown.Kinds.r survey.Reason.shown.Reads.Learnt (λ κs r e. r)
 
 abbrev pub OneSurveyStill : Type 0
 OneSurveyStill = One Standing survey.still.Kinds.ps survey.still.Kinds.r survey.still.Reads.Learnt (λ κs r e. r)
+
+-- ── summary
+abbrev pub OneSummaryMake : Type 0
+OneSummaryMake = One (ℕ × List ℕ) summary.make.Kinds.ps summary.make.Kinds.r summary.make.Reads.Learnt (λ κs r (_, (_, (_, (kept, _)))). (r, now kept))
+
+abbrev pub OneSummaryUpdate : Type 0
+OneSummaryUpdate = One (ℕ × List ℕ) summary.update.Kinds.ps summary.update.Kinds.r summary.update.Reads.Learnt (λ κs r (_, (_, (_, (kept, _)))). (r, now kept))
+
+abbrev pub OneSummaryCheck : Type 0
+OneSummaryCheck = One Report summary.check.Kinds.ps summary.check.Kinds.r summary.check.Reads.Learnt (λ κs r e. r)
 
 -- ── telecommand
 abbrev pub OneTelecommandTelecommandOf : Type 0
@@ -377,3 +417,12 @@ OneKeelKeelStep = One (ℕ × List ℕ) keel.keel_step.Kinds.ps keel.keel_step.K
 
 abbrev pub OneKeelKeelCheck : Type 0
 OneKeelKeelCheck = One (ℕ × List ℕ) keel.keel_check.Kinds.ps keel.keel_check.Kinds.r keel.keel_check.Reads.Learnt (λ κs r (_, (_, (_, (_, (report, _))))). (r, now report))
+
+abbrev pub OneKeelKeelCards : Type 0
+OneKeelKeelCards = One (ℕ × List ℕ) keel.keel_cards.Kinds.ps keel.keel_cards.Kinds.r keel.keel_cards.Reads.Learnt (λ κs r (_, (_, (_, (kept, _)))). (r, now kept))
+
+abbrev pub OneKeelKeelCardsUpdate : Type 0
+OneKeelKeelCardsUpdate = One (ℕ × List ℕ) keel.keel_cards_update.Kinds.ps keel.keel_cards_update.Kinds.r keel.keel_cards_update.Reads.Learnt (λ κs r (_, (_, (_, (kept, _)))). (r, now kept))
+
+abbrev pub OneKeelKeelCardsCheck : Type 0
+OneKeelKeelCardsCheck = One (ℕ × List ℕ) keel.keel_cards_check.Kinds.ps keel.keel_cards_check.Kinds.r keel.keel_cards_check.Reads.Learnt (λ κs r (_, (_, (_, (report, _)))). (r, now report))

@@ -51,6 +51,11 @@ changed answers seqsLeft listsLeft steps runs checks =
       runs = runs;
       checks = checks;
       still = ours .still;
+      makesCode = ours .makesCode;
+      makes = ours .makes;
+      updatesCode = ours .updatesCode;
+      updates = ours .updates;
+      checksCards = ours .checksCards;
       windowCode = ours .windowCode;
       windowPart = ours .windowPart;
     }

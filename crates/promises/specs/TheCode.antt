@@ -13,6 +13,7 @@ use Rattle.sequence.specs.Env.{envOf}
 use Rattle.runner.proofs as runner
 use Rattle.survey.proofs as survey
 use Rattle.survey.specs.Report.{reportOf}
+use Rattle.summary.proofs as summary
 use Rattle.telecommand.proofs as telecommand
 use Rattle.unit.proofs as unit
 use Rattle.unit.specs.State.{outOfRange}
@@ -56,6 +57,22 @@ CheckIs = Called survey.check.Kinds.ps survey.check.Kinds.r survey.check.Reads.L
 abbrev pub StillIs : Type 0
 StillIs = Called survey.still.Kinds.ps survey.still.Kinds.r survey.still.Reads.Learnt
     (λ κs (kind, (seqs, (lists, (seqs2, (lists2, (number, _)))))) result exit. result ≡ ours .still (formatOf kind) (now seqs) (now lists) (now seqs2) (now lists2) number)
+
+-- `make` and `update`, with what they leave in the summary, and `check` from cards
+abbrev pub MakeIs : Type 0
+MakeIs = Called summary.make.Kinds.ps summary.make.Kinds.r summary.make.Reads.Learnt
+    (λ κs (kind, (seqs, (lists, (kept, _)))) result (_, (_, (_, (kept′, _)))).
+    (result ≡ ours .makesCode (formatOf kind) (now seqs) (now lists) (now kept)) × (now kept′ ≡ ours .makes (formatOf kind) (now seqs) (now lists) (now kept)))
+
+abbrev pub UpdateIs : Type 0
+UpdateIs = Called summary.update.Kinds.ps summary.update.Kinds.r summary.update.Reads.Learnt
+    (λ κs (kind, (seqs, (lists, (kept, (address, (count, _)))))) result (_, (_, (_, (kept′, _)))).
+    (result ≡ ours .updatesCode (formatOf kind) (now seqs) (now lists) (now kept) address count)
+    × (now kept′ ≡ ours .updates (formatOf kind) (now seqs) (now lists) (now kept) address count))
+
+abbrev pub CardsCheckIs : Type 0
+CardsCheckIs = Called summary.check.Kinds.ps summary.check.Kinds.r summary.check.Reads.Learnt
+    (λ κs (kind, (kept, (number, _))) result exit. result ≡ reportOf (ours .checksCards (formatOf kind) (now kept) number))
 
 -- `window_code` and `window`
 abbrev pub WindowCodeIs : Type 0

@@ -140,13 +140,11 @@ pub path-passed : (cards : ℕ → ListCard) (text : List ℕ) (p : ℕ) (o : Op
 unfolding runRows rasterRows pathRows
 path-passed cards text p o z = path-rows cards (rasterAt text p) (repeatBegun o) (none-holds (runRows cards text p o) tt z .1)
 
--- ── the rows of a line list and of the flags, from its card without the marks that no flag needs
+-- ── a raster's rows, from its line list's card without the marks that no flag needs
 module _ (cards : ℕ → ListCard) (raster : RasterWords) (card : ListCard) (is : card ≡ cardWith (needsMark (raster .science)) (cards (raster .list))) where
-  pub list-rows : firstCode (listRows (λ n. card) raster) ≡ firstCode (listRows cards raster)
-  list-rows = rw (is, with-shown (needsMark (raster .science)) (cards (raster .list)))
-
-  pub flag-rows : firstCode (flagRows (λ n. card) raster) ≡ firstCode (flagRows cards raster)
-  flag-rows = rw (is, with-missing (raster .science) (cards (raster .list)))
+  pub raster-rows : (k : ℕ) → firstCode (rasterRows (λ n. card) raster k) ≡ firstCode (rasterRows cards raster k)
+  unfolding rasterRows pathRows
+  raster-rows k = rw (is, with-shown (needsMark (raster .science)) (cards (raster .list)), with-missing (raster .science) (cards (raster .list)))
 
 -- ── rows that all bear 3
 abbrev threes : List Row → Bool

@@ -1,7 +1,7 @@
 -- What the command at a place comes to, from the text, the place, the open raster and what is known of the line lists alone.
 -- The step acts on this judgement and the table check walks the text with it.
 use Prim.Native.Nat.{ℕ, _+_}
-use mathlib.Core.Bool.{Bool, true, false, cond, not}
+use mathlib.Core.Bool.{Bool, true, false, cond, not, _&&_}
 use mathlib.Core.List.{List, [], _∷_, _++_}
 use lib.Dec.{ltb, leb, eqb}
 use Rattle.octets.specs.Rows.{Row, row, firstCode}
@@ -80,6 +80,12 @@ rasterRows cards raster k = countRows raster ++ (listRows cards raster ++ (pathR
 -- "Run raster: raster already open 3 (a repeat's jump back isn't that ..)"
 unfoldable pub runRows : (ℕ → ListCard) → List ℕ → ℕ → Opened → List Row
 runRows cards text p o = row 3 (openElsewhere p o) ∷ rasterRows cards (rasterAt text p) (repeatBegun o)
+
+-- the command at p is a run raster that comes to the test of its line list: no row before it refuses
+unfoldable pub testsList : List ℕ → ℕ → Opened → Bool
+testsList text p o =
+    isRunRaster (commandAt text p)
+    && eqb (firstCode (row 3 (openElsewhere p o) ∷ (countRows (rasterAt text p) ++ (row 6 (ltb 47 (rasterAt text p .list)) ∷ [])))) 0
 
 -- "Expose: no open raster, time 0, or the set already full, 3."
 unfoldable pub exposeRows : List ℕ → ℕ → Opened → List Row

@@ -9,8 +9,8 @@ ghost use Rattle.octets.specs.Rows.{firstCode, NoneHolds};
 ghost use Rattle.sequence.specs.Raster.{rasterAt, asrcWrong, shiftOf, startOf, strays, leaves};
 ghost use Rattle.sequence.specs.declared.Command.the-variants.{Expose, Delay};
 ghost use Rattle.sequence.specs.Text.{rowOf, fault, sizeAt};
-ghost use Rattle.sequence.specs.Env.{cardsOf, envOf};
-ghost use Rattle.runner.specs.Judge.{isOpen, openElsewhere, repeatBegun, setOf, full, countRows, listRows, pathRows, flagRows, rasterRows, runRows, exposeRows, loopRows, closeRows, unless, exposesIn, judge};
+ghost use Rattle.sequence.specs.Env.{cardsOf, cardsLent, envOf};
+ghost use Rattle.runner.specs.Judge.{isOpen, openElsewhere, repeatBegun, setOf, full, countRows, listRows, pathRows, flagRows, rasterRows, runRows, exposeRows, loopRows, closeRows, testsList, unless, exposesIn, judge};
 ghost use Rattle.runner.specs.Step.{to, openOf, aborted, entered, advances, exposedAt, nextRepeat, another, act, stepIn, stepOf, Stands};
 ghost use Rattle.runner.specs.With.{withPlace, openAt, withCount, withPasses};
 use memory::Format;
@@ -19,6 +19,7 @@ use memory::Placed;
 use sequence::Command;
 use sequence::Fault;
 use sequence::Header;
+use sequence::Lent;
 use sequence::ListCard;
 use sequence::RasterWords;
 
@@ -342,16 +343,11 @@ fn flag_fault(raster: RasterWords, card: ListCard) -> u8
     octets::refuse(forbidden, 3, octets::refuse(missing, 7, 0))
 }
 
-// The code with which a raster's words are refused, or 0: counts, line list, path, flags. The marks of the line list are looked for only
-// where a flag needs one.
-fn raster_fault(raster: RasterWords, lists: &[u8], k: u16) -> u8
-    ensures { λ r. ⌜ r ≡ firstCode (rasterRows (cardsOf (now (lists .entry))) raster k) ⌝ }
+// The code with which a raster's words are refused, or 0, given its line list's card: counts, line list, path, flags.
+fn raster_fault(raster: RasterWords, card: ListCard, k: u16) -> u8
+    ensures { λ r. ⌜ r ≡ firstCode (rasterRows (λ n. card) raster k) ⌝ }
 {
     let counts = count_fault(raster);
-    let card = sequence::list_card(
-        memory::list(lists, raster.list),
-        sequence::needs_mark(raster.science),
-    );
     let list = list_fault(raster, card);
     let path = path_fault(raster, k);
     octets::refuse(
@@ -365,13 +361,47 @@ fn raster_fault(raster: RasterWords, lists: &[u8], k: u16) -> u8
     )
 }
 
-// The code with which a run raster is refused, or 0.
-fn run_fault(text: &[u8], lists: &[u8], at: Place, held: Opened) -> u8
-    ensures { λ r. ⌜ r ≡ firstCode (runRows (cardsOf (now (lists .entry))) (now (text .entry)) (at .0) held) ⌝ }
+// The code with which a run raster is refused, or 0. The marks of the line list are looked for only where a flag needs one.
+fn run_fault(text: &[u8], lent: Lent, lists: &[u8], at: Place, held: Opened) -> u8
+    ensures { λ r. ⌜ r ≡ firstCode (runRows (cardsLent lent (now (lists .entry))) (now (text .entry)) (at .0) held) ⌝ }
 {
     let raster = sequence::raster_at(text, at);
+    let wanted = sequence::needs_mark(raster.science);
+    let card = sequence::card_of(lent, lists, raster.list, wanted);
     let k = held.repeat_begun();
-    octets::refuse(held.elsewhere(at), 3, raster_fault(raster, lists, k))
+    octets::refuse(held.elsewhere(at), 3, raster_fault(raster, card, k))
+}
+
+// Whether the command at a place is a run raster that comes to the test of its line list: no row before it refuses.
+pub fn tests_list(text: &[u8], at: Place, held: Opened) -> bool
+    ensures { λ r. ⌜ r ≡ testsList (now (text .entry)) (at .0) held ⌝ }
+{
+    if !sequence::raster_stands(text, at) {
+        return false;
+    }
+    let exposures = sequence::exposures_at(text, at);
+    octets::refuse(
+        held.elsewhere(at),
+        3,
+        octets::refuse(
+            sequence::loops_at(text, at) == 0,
+            11,
+            octets::refuse(
+                sequence::repeats_at(text, at) == 0,
+                11,
+                octets::refuse(
+                    exposures == 0,
+                    5,
+                    octets::refuse(
+                        Runner::FULL_SET < exposures,
+                        5,
+                        octets::refuse(memory::LAST_LINE_LIST < sequence::list_at(text, at), 6, 0),
+                    ),
+                ),
+            ),
+        ),
+    )
+        == 0
 }
 
 // The code with which an expose is refused, or 0.
@@ -422,13 +452,13 @@ fn close_fault(text: &[u8], at: Place, held: Opened) -> u8
 }
 
 // What the command at a place comes to.
-pub fn judge(text: &[u8], lists: &[u8], at: Place, held: Opened) -> Act
-    ensures { λ r. ⌜ r ≡ judge (cardsOf (now (lists .entry))) (now (text .entry)) (at .0) held ⌝ }
+pub fn judge(text: &[u8], lent: Lent, lists: &[u8], at: Place, held: Opened) -> Act
+    ensures { λ r. ⌜ r ≡ judge (cardsLent lent (now (lists .entry))) (now (text .entry)) (at .0) held ⌝ }
     ensures { λ r. ⌜ at .0 + sizeAt (now (text .entry)) (at .0) < 256 ⌝ }
 {
     let command = sequence::command_at(text, at);
     match command {
-        Command::RunRaster => unless(run_fault(text, lists, at, held), Act::Opens),
+        Command::RunRaster => unless(run_fault(text, lent, lists, at, held), Act::Opens),
         Command::Expose(time) => unless(expose_fault(text, time, held), held.exposes()),
         Command::LoopBack(target) => unless(loop_fault(text, at, target, held), Act::Loops(target)),
         Command::CallSequence(n) => unless(close_fault(text, at, held), Act::Calls(n)),
@@ -547,7 +577,7 @@ impl Runner {
         ensures { λ r. ⌜ r ≡ act format (now (text .entry)) self (unless (firstCode (runRows (cardsOf (now (lists .entry))) (now (text .entry)) (at .0) (openOf format self))) Act.Opens) ⌝ }
     {
         let held = self.opened(format);
-        let code = run_fault(text, lists, at, held);
+        let code = run_fault(text, Lent::Lists, lists, at, held);
         if code != 0 {
             return self.refused(code);
         }

@@ -1,6 +1,7 @@
 pub mod Laws
 pub mod Sums
 pub mod Windows
+pub mod Cards
 pub mod Flags
 pub mod Paths
 pub mod Hops

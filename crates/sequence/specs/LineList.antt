@@ -1,10 +1,10 @@
 -- A line list's card: what is known of it.
 use Prim.Native.Nat.{ℕ, zero, suc, _+_, _*_}
 use mathlib.Core.Bool.{Bool, false, cond, not, _&&_, _||_}
-use mathlib.Core.List.{List, _++_}
+use mathlib.Core.List.{List, [], _∷_, _++_}
 use lib.Dec.{leb, eqb}
 use lib.ListN.{take, drop}
-use Rattle.octets.specs.Bytes.{byteAt, wordAt, wordBit, xorOf}
+use Rattle.octets.specs.Bytes.{byteAt, wordAt, byteBit, wordBit, xorOf}
 use Rattle.sequence.specs.declared.Marks.{Marks}
 use Rattle.sequence.specs.declared.BadList.{BadList}
 use Rattle.sequence.specs.declared.BadList.the-variants.{WindowCount, Length, Checksum}
@@ -58,6 +58,24 @@ noMarks = record { aec = false; event = false; flare = false }
 abbrev pub marksIn : ListCard → Marks
 marksIn (Good marks) = marks
 marksIn (Bad bad) = noMarks
+
+-- a card in four bytes: "the reason's number (0 good), the expected value, the marks (10, 08, 04), zero"
+abbrev pub markBits : Marks → ℕ
+markBits marks = cond (marks .aec) 0x10 0 + cond (marks .event) 0x08 0 + cond (marks .flare) 0x04 0
+
+abbrev pub cardBytes : ListCard → List ℕ
+cardBytes card = cardShown card .number ∷ cardShown card .value ∷ markBits (marksIn card) ∷ 0 ∷ []
+
+-- and the card that four bytes are read as, whatever they are
+abbrev pub marksRead : ℕ → Marks
+marksRead bits = record { aec = byteBit 3 bits; event = byteBit 4 bits; flare = byteBit 5 bits }
+
+abbrev pub cardRead : List ℕ → ListCard
+cardRead card =
+    cond (eqb (byteAt card 0) 0) (Good (marksRead (byteAt card 2)))
+    (cond (eqb (byteAt card 0) 1) (Bad WindowCount)
+    (cond (eqb (byteAt card 0) 2) (Bad Length)
+    (Bad (Checksum (byteAt card 1)))))
 
 -- for the code: a card without the marks that nobody wants
 abbrev pub cardWith : Bool → ListCard → ListCard

@@ -9,7 +9,8 @@ ghost use Rattle.octets.specs.Bytes.{byteAt, wordAt, byteBit, xorOn};
 ghost use Rattle.sequence.specs.Text.{limit, lengthGood, xorGood, headerOf, numberOf, sizeOf, sizeAt, noneThere, decoded, commandAt, isRunRaster};
 ghost use Rattle.sequence.specs.Starts.{among, starts, firstExposure, targetGood};
 ghost use Rattle.sequence.specs.Raster.{rasterAt, flagsGood, needsMark, markMissing};
-ghost use Rattle.sequence.specs.LineList.{marked, listCard, reasonAs, badShown, cardShown, marksIn, cardWith};
+ghost use Rattle.sequence.specs.LineList.{marked, listCard, reasonAs, badShown, cardShown, marksIn, cardWith, markBits, cardBytes, cardRead};
+ghost use Rattle.sequence.specs.Env.{cardsKept, cardsLent};
 use memory::Place;
 
 // What stands at a place of a text: a command with its operand, or none there, one of an unknown number, or one that does not fit.
@@ -105,6 +106,15 @@ pub enum BadList {
 pub enum ListCard {
     Good(Marks),
     Bad(BadList),
+}
+
+// The bytes of a line list's card.
+pub const CARD: usize = 4;
+
+// What is lent of the line lists: their own bytes, or their cards, four bytes each.
+pub enum Lent {
+    Lists,
+    Cards,
 }
 
 // What a walk over a line list gives: its XOR on the number that it began with, and the low bytes of its windows' headers, by OR.
@@ -403,6 +413,17 @@ impl Marks {
     }
 }
 
+impl Marks {
+    // The marks as the bits of a byte, where a header's low byte has them.
+    fn bits(self) -> u8
+        ensures { λ r. ⌜ r ≡ markBits self ⌝ }
+    {
+        octets::refuse(self.aec, 16, 0)
+            + octets::refuse(self.event, 8, 0)
+            + octets::refuse(self.flare, 4, 0)
+    }
+}
+
 // The marks in the low bytes of headers.
 fn marks_from(seen: u8) -> Marks
     ensures { λ r. ⌜ (r .aec ≡ byteBit 3 seen) × (r .event ≡ byteBit 4 seen) × (r .flare ≡ byteBit 5 seen) ⌝ }
@@ -511,6 +532,48 @@ impl ListCard {
                 flare: false,
             },
         }
+    }
+
+    // The card in four bytes.
+    pub fn bytes(self) -> [u8; CARD]
+        ensures { λ r. ⌜ r ≡ cardBytes self ⌝ }
+    {
+        let shown = self.shown();
+        [shown.number, shown.value, self.marks().bits(), 0]
+    }
+}
+
+// The card that four bytes are read as. Marks that are not wanted are left out.
+fn card_from(card: &[u8], wanted: bool) -> ListCard
+    ensures { λ r. ⌜ r ≡ cardWith wanted (cardRead (now (card .entry))) ⌝ }
+{
+    let number = octets::byte(card, 0);
+    if number == 0 {
+        return ListCard::Good(marks_from(octets::refuse(wanted, octets::byte(card, 2), 0)));
+    }
+    if number == 1 {
+        return ListCard::Bad(BadList::WindowCount);
+    }
+    if number == 2 {
+        return ListCard::Bad(BadList::Length);
+    }
+    ListCard::Bad(BadList::Checksum(octets::byte(card, 1)))
+}
+
+// What is known of line list n from the cards that are kept. Marks that are not wanted are left out.
+pub fn kept_card(kept: &[u8], n: u8, wanted: bool) -> ListCard
+    ensures { λ r. ⌜ r ≡ cardWith wanted (cardsKept (now (kept .entry)) n) ⌝ }
+{
+    card_from(octets::part(kept, n as usize * CARD, CARD), wanted)
+}
+
+// What is known of line list n from what is lent. Marks that are not wanted are left out.
+pub fn card_of(lent: Lent, lists: &[u8], n: u8, wanted: bool) -> ListCard
+    ensures { λ r. ⌜ r ≡ cardWith wanted (cardsLent lent (now (lists .entry)) n) ⌝ }
+{
+    match lent {
+        Lent::Lists => list_card(memory::list(lists, n), wanted),
+        Lent::Cards => kept_card(lists, n, wanted),
     }
 }
 

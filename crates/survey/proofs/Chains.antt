@@ -105,7 +105,7 @@ total-join Returns a k s = sym (add-assoc a k s)
 total-join (Faults n f reason) a k s = refl
 
 -- the names so far and one sequence in front of the rest are the names with that sequence, and the rest
-joined-front : (names : List ℕ) (a b n k x : ℕ) (t : Told) → joined names a b (front n k x t) ≡ joined (n ∷ names) (a + k) (b + x) t
+pub joined-front : (names : List ℕ) (a b n k x : ℕ) (t : Told) → joined names a b (front n k x t) ≡ joined (n ∷ names) (a + k) (b + x) t
 joined-front names a b n k x t =
     rw (total-join (t .ending) a k, total-join (t .ending) b x, reverse-cons n names, append-snoc (reverse names) n (t .names))
 
@@ -144,7 +144,7 @@ module _ (E : Env) (seqs : List ℕ) where
   Reports chain rest r = (names : List ℕ) → Is chain names → reported E seqs r ≡ reportOf (joined names (chain .steps) (chain .exposures) (rest names))
 
 -- ── each way out of a closing command
-follow-back : (found : ℕ → Finding) (f : ℕ) (names : List ℕ) (m : ℕ) → among m names ≡ true → follow found f names m ≡ told [] Returns 0 0
+pub follow-back : (found : ℕ → Finding) (f : ℕ) (names : List ℕ) (m : ℕ) → among m names ≡ true → follow found f names m ≡ told [] Returns 0 0
 unfolding follow
 follow-back found zero names m e = refl
 follow-back found (suc f) names m e = rw e
@@ -237,11 +237,11 @@ module _ {F : Format} {lists seqs : List ℕ} {chain : Chain} {n : ℕ} {w : Wal
 marks-start : (n : ℕ) → n < 128 → getD (emptyChain .marks) n false ≡ false
 marks-start n l = getD-replicate 128 n false false l
 
-kept-start : Marked emptyChain
+pub kept-start : Marked emptyChain
 unfolding unmarked
 kept-start = record { listed-long = refl; marks-long = refl; all = refl; steps-fit = zero-le; exposures-fit = zero-le }
 
-is-start : Is emptyChain []
+pub is-start : Is emptyChain []
 unfolding padded among
 is-start = record { list = refl; count = refl; marks = λ k h. getD-replicate 128 k false false h }
 
@@ -258,7 +258,7 @@ onward-whole go n (passes k x is p Terminates) = rw (zero-add k, zero-add x)
 onward-whole go n (passes k x is p (CallsOn m)) = rw (total-none (go m .ending) k, total-none (go m .ending) x)
 onward-whole go n (faults f reason) = refl
 
-follow-whole : (found : ℕ → Finding) (f : ℕ) (names : List ℕ) (n : ℕ) → joined [] 0 0 (follow found f names n) ≡ follow found f names n
+pub follow-whole : (found : ℕ → Finding) (f : ℕ) (names : List ℕ) (n : ℕ) → joined [] 0 0 (follow found f names n) ≡ follow found f names n
 unfolding follow
 follow-whole found zero names n = refl
 follow-whole found (suc f) names n =

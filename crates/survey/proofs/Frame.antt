@@ -29,8 +29,9 @@ use Rattle.runner.specs.declared.Opened.{Opened}
 use Rattle.runner.specs.declared.Opened.the-variants.{Shut, Open}
 use Rattle.runner.specs.declared.Act.{Act}
 use Rattle.runner.specs.declared.Act.the-variants.{Refused, Opens, Exposes, Loops, Waits, Calls, Ends}
-use Rattle.runner.specs.Judge.{repeatBegun, pathRows, flagRows, rasterRows, runRows, judged, judge}
+use Rattle.runner.specs.Judge.{judged, judge}
 use Rattle.runner.proofs.Exactly.{seven}
+use Rattle.runner.proofs.Tested.{tests-run, tested-judge}
 use Rattle.runner.proofs.Within.{judge-alike, OnRaster, Tells, tells}
 use Rattle.survey.specs.declared.Closing.the-variants.{Terminates, CallsOn}
 use Rattle.survey.specs.Walk.{Finding, passes, faults, closed, paused, oneMore, walked, walk, rounds, checkedBy, checkOne, findingOf}
@@ -44,36 +45,9 @@ module _ (cards cards′ : ℕ → ListCard) where
   abbrev pub SameAt : List ℕ → ℕ → Type 0
   SameAt text p = commandAt text p ≡ RunRaster → rasterAt text p .list ≤ 47 → cards′ (rasterAt text p .list) ≡ cards (rasterAt text p .list)
 
-  same-rows : (raster : RasterWords) (begun : ℕ) → (raster .list ≤ 47 → cards′ (raster .list) ≡ cards (raster .list))
-      → firstCode (rasterRows cards′ raster begun) ≡ firstCode (rasterRows cards raster begun)
-  unfolding rasterRows
-  same-rows raster begun h = ap rest (named (ltb 47 (raster .list)) refl)
-    where
-      rest : ℕ → ℕ
-      rest k = cond (eqb (raster .loops) 0) 11 (cond (eqb (raster .repeats) 0) 11 (cond (eqb (raster .exposures) 0) 5 (cond (ltb 8 (raster .exposures)) 5 k)))
-
-      named : (b : Bool) → ltb 47 (raster .list) ≡ b
-          → cond b 6 (cond (ltb 0 (cardShown (cards′ (raster .list)) .number)) 7 (firstCode (pathRows raster begun ++ flagRows cards′ raster)))
-          ≡ cond b 6 (cond (ltb 0 (cardShown (cards (raster .list)) .number)) 7 (firstCode (pathRows raster begun ++ flagRows cards raster)))
-      named true e = refl
-      named false e = rw (h (ltb-false 47 (raster .list) e))
-
-  module _ (text : List ℕ) (p : ℕ) (h : SameAt text p) where
-    same-judged : (o : Opened) (k : Command) → commandAt text p ≡ k → judged cards′ text p o k ≡ judged cards text p o k
-    unfolding judged runRows
-    same-judged o RunRaster e = rw (same-rows (rasterAt text p) (repeatBegun o) (h e))
-    same-judged o (Expose t) e = refl
-    same-judged o (LoopBack t) e = refl
-    same-judged o (CallSequence n) e = refl
-    same-judged o Terminate e = refl
-    same-judged o (Delay t) e = refl
-    same-judged o Nothing e = refl
-    same-judged o Unknown e = refl
-    same-judged o Unfit e = refl
-
-    pub same-judge : (o : Opened) → judge cards′ text p o ≡ judge cards text p o
-    unfolding judge
-    same-judge o = same-judged o (commandAt text p) refl
+  -- a run raster that tests its line list stands there, and names one that the table has
+  pub same-judge : (text : List ℕ) (p : ℕ) → SameAt text p → (o : Opened) → judge cards′ text p o ≡ judge cards text p o
+  same-judge text p h o = tested-judge text p o cards cards′ (λ t. let (run, low) = tests-run text p o t in h run low)
 
 -- ── where no command stands whole, every judgement is a refusal
 none-judged : (cards : ℕ → ListCard) (text : List ℕ) (p : ℕ) (o : Opened) (k : Command) → sizeOf (numberOf k) ≡ 0 → judged cards text p o k ≡ Refused 3

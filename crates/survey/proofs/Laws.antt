@@ -4,13 +4,13 @@ use native.Mathlib.Nat.{add-zero, zero-add, add-assoc}
 use native.Mathlib.Omega.{arith}
 use mathlib.Core.Path.{_≡_, refl, sym, ap, _∙_, subst}
 use mathlib.Core.Bool.{Bool, true, false, cond}
-use mathlib.Core.List.{List}
+use mathlib.Core.List.{List, [], _∷_, _++_, append-nil, append-assoc}
 use lib.Dec.{ltb, eqb}
 use lib.ListN.{length, take, length-take}
 use borrow.Author.Tests.{ltb-true, ltb-false, eqb-true, not-false, eq-eqb, ne-eqb}
 use Rattle.octets.specs.Rows.{firstCode}
 use Rattle.octets.proofs.Laws.{none-holds}
-use Rattle.octets.proofs.Bools.{choice}
+use Rattle.octets.proofs.Bools.{by-test, choice}
 use Rattle.memory.specs.declared.Format.{Format}
 use Rattle.memory.specs.declared.Place.{Place}
 use Rattle.memory.specs.declared.Placed.{Placed}
@@ -33,7 +33,8 @@ use Rattle.runner.specs.declared.Opened.{Opened}
 use Rattle.runner.specs.declared.Opened.the-variants.{Shut, Open}
 use Rattle.runner.specs.declared.Act.{Act}
 use Rattle.runner.specs.declared.Act.the-variants.{Refused, Opens, Exposes, Loops, Waits, Calls, Ends}
-use Rattle.runner.specs.Judge.{runRows, exposeRows, loopRows, closeRows, unless, exposesIn, judged, judge}
+use Rattle.runner.specs.Judge.{runRows, exposeRows, loopRows, closeRows, testsList, unless, exposesIn, judged, judge}
+use Rattle.runner.proofs.Tested.{tests-run, Tests, tests}
 use Rattle.survey.specs.declared.Item.{Item}
 use Rattle.survey.specs.declared.Item.the-variants.{Pause}
 use Rattle.survey.specs.declared.Closing.{Closing}
@@ -44,8 +45,10 @@ use Rattle.survey.specs.declared.Walked.the-variants.{Faulty, Closed}
 use Rattle.survey.specs.declared.Round.{Round}
 use Rattle.survey.specs.Items.{itemSteps, itemExposures}
 use Rattle.survey.specs.Walk.{Finding, passes, faults, inFront, oneMore, walked, walk, rounds, checkOne}
+use Rattle.survey.specs.Tested.{testedAt, testedPast, testedFrom, testedIn, bitsOf}
 use Rattle.survey.specs.Report.{walkedOf}
-use Rattle.survey.specs.Held.{moved, RoomFor, exposuresIn, pauseIn, between, countedScan, loopedIn, allRounds, AtMost, LowCall}
+use Rattle.survey.specs.Held.{moved, openedIn, withList, RoomFor, exposuresIn, pauseIn, between, countedScan, loopedIn, allRounds, AtMost, LowCall}
+use Rattle.survey.proofs.Bits.{bits-none, bits-most, bits-more}
 use Rattle.survey.proofs.Names.{Low, low-one}
 use Rattle.survey.proofs.Counts.{between-most, Reached, reached-start, reached-on, scan-counted}
 use Rattle.survey.proofs.Totals.{Octets, part-octets, narrow, steps-most, exposures-most, Small, small-more, walk-small, one-small}
@@ -179,26 +182,38 @@ pub record Within (left : ℕ) (r : Round) : Type 0 where
   pub steps : r .steps + left * 2 ^ 37 ≤ 2 ^ 46
   pub exposures : r .exposures + left * 2 ^ 37 ≤ 2 ^ 46
 
+-- the line lists tested from place 4
+abbrev pub allTested : (ℕ → ListCard) → List ℕ → List ℕ
+allTested cards text = testedFrom cards text (length text) 4 Shut
+
+-- those tested so far, and those from here on
+pub record Tested (cards : ℕ → ListCard) (text : List ℕ) (left : ℕ) (r : Round) : Type 0 where
+  pub before : List ℕ
+  pub bits : r .tested ≡ bitsOf 48 before
+  pub all : before ++ testedFrom cards text left (r .place) (r .held) ≡ allTested cards text
+
 pub record Going (cards : ℕ → ListCard) (text : List ℕ) (left : ℕ) (r : Round) : Type 0 where
   pub same : found cards text left r ≡ whole cards text
   pub within : Within left r
   pub reached : Reached text (r .place) (r .held)
+  pub tested : Tested cards text left r
 
-abbrev round : ℕ → Opened → ℕ → ℕ → Round
-round p o k x = record { place = p; held = o; steps = k; exposures = x }
+abbrev round : ℕ → Opened → ℕ → ℕ → ℕ → Round
+round p o k x b = record { place = p; held = o; steps = k; exposures = x; tested = b }
 
-pub going-start : (cards : ℕ → ListCard) (text : List ℕ) → length text ≤ 256 → Going cards text (length text) (round 4 Shut 0 0)
+pub going-start : (cards : ℕ → ListCard) (text : List ℕ) → length text ≤ 256 → Going cards text (length text) (round 4 Shut 0 0 0)
 going-start cards text short =
     record {
       same = atop-none (whole cards text);
       within = record { counted = omega arith; steps = omega arith; exposures = omega arith };
       reached = (0, here);
+      tested = record { before = []; bits = sym (bits-none 48); all = refl };
     }
 
 -- the round past the command of an act, where the walk goes on
 abbrev pub roundPast : List ℕ → Place → Round → Act → Round
 roundPast text at r (Refused code) = r
-roundPast text at r Opens = moved (rowOf RunRaster .size) (Open at 0 0) 0 0 r
+roundPast text at r Opens = openedIn at (rasterAt text (at .0) .list) r
 roundPast text at r (Exposes o) = moved (rowOf (Expose 0) .size) (oneMore (r .held)) 0 0 r
 roundPast text at r (Loops t) = loopedIn text t (r .held) r
 roundPast text at r Waits = moved (rowOf (Delay 0) .size) (r .held) (pauseIn (r .held)) 0 r
@@ -219,15 +234,25 @@ comes cards text f at r Waits = found cards text f (roundPast text at r Waits)
 comes cards text f at r (Calls m) = Closed (r .place) (CallsOn m) (r .steps + 1) (r .exposures)
 comes cards text f at r Ends = Closed (r .place) Terminates (r .steps + 1) (r .exposures)
 
-module _ (cards : ℕ → ListCard) (text : List ℕ) (f p k x : ℕ) where
+-- an act after which the walk goes on
+abbrev pub Goes : Act → Type 0
+Goes (Refused code) = ⊥
+Goes Opens = Unit {0}
+Goes (Exposes r) = Unit {0}
+Goes (Loops t) = Unit {0}
+Goes Waits = Unit {0}
+Goes (Calls m) = ⊥
+Goes Ends = ⊥
+
+module _ (cards : ℕ → ListCard) (text : List ℕ) (f p k x b : ℕ) where
   comes-so : (o : Opened) (a : Act) → Sized text p o a → Reached text p o
-      → atop k x (walkedOf (walked cards text (λ p′ o′. walk cards text f p′ o′) p o a)) ≡ comes cards text f (placeAt p) (round p o k x) a
+      → atop k x (walkedOf (walked cards text (λ p′ o′. walk cards text f p′ o′) p o a)) ≡ comes cards text f (placeAt p) (round p o k x b) a
   unfolding walked
   comes-so o (Refused code) s h = refl
-  comes-so o Opens s h = rw (s, add-zero k, add-zero x)
+  comes-so o Opens s h = rw s
   comes-so o (Exposes r) s h = rw (s, add-zero k, add-zero x)
   comes-so Shut (Loops t) s h = absurd (s .2)
-  comes-so (Open r c m) (Loops t) (s, b, g) ((i, hr), (n, hp)) =
+  comes-so (Open r c m) (Loops t) (s, l, g) ((i, hr), (n, hp)) =
       rw (s, scan-counted text (r .0) t p i n hr hp (omega arith) g) (walked-front text (countedScan text (r .0) t p) k x (walk cards text f (p + rowOf (LoopBack 0) .size) Shut))
   comes-so Shut Waits s h = rw s (walked-front text (Pause p) k x (walk cards text f (p + rowOf (Delay 0) .size) Shut))
   comes-so (Open r c m) Waits s h = rw (s, add-zero k, add-zero x)
@@ -239,7 +264,7 @@ module _ (cards : ℕ → ListCard) (text : List ℕ) (f p k x : ℕ) where
   moves o n s z h = rw s at (reached-on text p o h (omega arith))
 
   reached-past : (o : Opened) (a : Act) → Sized text p o a → Reached text p o
-      → Reached text (roundPast text (placeAt p) (round p o k x) a .place) (roundPast text (placeAt p) (round p o k x) a .held)
+      → Reached text (roundPast text (placeAt p) (round p o k x b) a .place) (roundPast text (placeAt p) (round p o k x b) a .held)
   reached-past o (Refused code) s h = h
   reached-past o Opens s h = let g : Hops text p (p + sizeAt text p) 1 = hop {p = p} (omega arith) here in (reached-start text p o h, (0, rw s at g))
   reached-past Shut (Exposes r) s h = moves Shut (rowOf (Expose 0) .size) s (omega arith) h
@@ -250,8 +275,37 @@ module _ (cards : ℕ → ListCard) (text : List ℕ) (f p k x : ℕ) where
   reached-past o (Calls m) s h = h
   reached-past o Ends s h = h
 
-module _ (text : List ℕ) (f p k x : ℕ) (oct : Octets text) (low : p < 256) where
-  within-past : (o : Opened) (a : Act) → Sized text p o a → Within (suc f) (round p o k x) → Within f (roundPast text (placeAt p) (round p o k x) a)
+  module _ (o : Opened) (before : List ℕ) (eb : b ≡ bitsOf 48 before) where
+    abbrev Whole : Act → Type 0
+    Whole a = before ++ (testedAt text p o ++ testedPast text (λ p′ o′. testedFrom cards text f p′ o′) p o a) ≡ allTested cards text
+
+    -- nothing is tested here
+    same-tested : (n : ℕ) (o′ : Opened) → sizeAt text p ≡ n → testsList text p o ≡ false
+        → before ++ (testedAt text p o ++ testedFrom cards text f (p + sizeAt text p) o′) ≡ allTested cards text → (r : Round) → r .place ≡ p + n → r .held ≡ o′ → r .tested ≡ b → Tested cards text f r
+    same-tested n o′ s none h r ep eo et = record { before = before; bits = et ∙ eb; all = rw (ep, eo, ← s) (rw none at h) }
+
+    tested-past : (a : Act) → Sized text p o a → Tests text p o a → Goes a → Whole a → Tested cards text f (roundPast text (placeAt p) (round p o k x b) a)
+    unfolding testedPast
+    tested-past (Refused code) s y g h = absurd g
+    tested-past Opens s y g h =
+        record {
+          before = before ++ rasterAt text p .list ∷ [];
+          bits = rw eb (bits-more before (rasterAt text p .list) (tests-run text p o y .1));
+          all = append-assoc before (rasterAt text p .list ∷ []) _ ∙ (rw (s, y) at h);
+        }
+    tested-past (Exposes r) s y g h = same-tested (rowOf (Expose 0) .size) (oneMore o) s y h _ refl refl refl
+    tested-past (Loops t) s y g h = looped o (s .2) y h
+      where
+        looped : (u : Opened) → Aims text p t u → testsList text p o ≡ false → before ++ (testedAt text p o ++ testedFrom cards text f (p + sizeAt text p) Shut) ≡ allTested cards text
+            → Tested cards text f (loopedIn text t u (round p u k x b))
+        looped Shut aims none w = absurd aims
+        looped (Open r c m) aims none w = same-tested (rowOf (LoopBack 0) .size) Shut (s .0) none w _ refl refl refl
+    tested-past Waits s y g h = same-tested (rowOf (Delay 0) .size) o s y h _ refl refl refl
+    tested-past (Calls m) s y g h = absurd g
+    tested-past Ends s y g h = absurd g
+
+module _ (text : List ℕ) (f p k x b : ℕ) (oct : Octets text) (low : p < 256) where
+  within-past : (o : Opened) (a : Act) → Sized text p o a → Within (suc f) (round p o k x b) → Within f (roundPast text (placeAt p) (round p o k x b) a)
   within-past o (Refused code) s w = record { counted = w .counted; steps = omega arith; exposures = omega arith }
   within-past o Opens s w = record { counted = omega arith; steps = omega arith; exposures = omega arith }
   within-past Shut (Exposes r) s w = record { counted = omega arith; steps = omega arith; exposures = omega arith }
@@ -260,7 +314,7 @@ module _ (text : List ℕ) (f p k x : ℕ) (oct : Octets text) (low : p < 256) w
   within-past (Open r c m) (Loops t) s w =
       let before = between text t (r .0 + sizeAt text (r .0)) t in
       let from = between text p t p in
-      let b = between-most text t (r .0 + sizeAt text (r .0)) t in
+      let a = between-most text t (r .0 + sizeAt text (r .0)) t in
       let d = between-most text p t p in
       let v = narrow text (r .0) oct in
       let y = steps-most (rasterAt text (r .0)) v before from (omega arith) (omega arith) in
@@ -273,18 +327,26 @@ module _ (text : List ℕ) (f p k x : ℕ) (oct : Octets text) (low : p < 256) w
 
 -- ── each way out of the walk, and on
 module _ (cards : ℕ → ListCard) (text : List ℕ) (left : ℕ) (r : Round) (g : Going cards text left r) where
-  -- nothing is left to look at, or the number is no place of the text
-  pub going-none : left ≡ 0 → Faulty (fault 3 (r .place)) ≡ whole cards text
-  unfolding walk
-  going-none e = rw e at (g .same)
+  -- nothing more is tested
+  pub tested-so : (t : Tested cards text left r) → testedFrom cards text left (r .place) (r .held) ≡ [] → r .tested ≡ bitsOf 48 (allTested cards text)
+  tested-so t e = t .bits ∙ ap (bitsOf 48) (sym (append-nil (t .before)) ∙ (rw e at (t .all)))
 
-  pub going-outside : length text ≤ r .place → Faulty (fault 3 (r .place)) ≡ whole cards text
-  unfolding walk walked judge judged
-  going-outside beyond = by left (g .same)
+  -- nothing is left to look at, or the number is no place of the text
+  pub going-none : left ≡ 0 → (Faulty (fault 3 (r .place)) ≡ whole cards text) × (r .tested ≡ bitsOf 48 (allTested cards text))
+  unfolding walk testedFrom
+  going-none e = (rw e at (g .same), tested-so (g .tested) (rw e))
+
+  pub going-outside : length text ≤ r .place → (Faulty (fault 3 (r .place)) ≡ whole cards text) × (r .tested ≡ bitsOf 48 (allTested cards text))
+  unfolding walk walked judge judged testedFrom testedPast testsList
+  going-outside beyond = (by left (g .same), tested-so (g .tested) (none left))
     where
       by : (f : ℕ) → found cards text f r ≡ whole cards text → Faulty (fault 3 (r .place)) ≡ whole cards text
       by zero e = e
       by (suc f) e = rw (none-past text (r .place) beyond) at e
+
+      none : (f : ℕ) → testedFrom cards text f (r .place) (r .held) ≡ []
+      none zero = refl
+      none (suc f) = rw (none-past text (r .place) beyond)
 
 -- the judgement of the command at the round's place, with some left to look at
 pub record Turn (F : Format) (cards : ℕ → ListCard) (text : List ℕ) (left : ℕ) (r : Round) (at : Place) (a : Act) : Type 0 where
@@ -307,26 +369,62 @@ module _ {F : Format} {cards : ℕ → ListCard} {text : List ℕ} {left : ℕ} 
     is : judge cards text (r .place) (r .held) ≡ x
     is = rw (t .here .1) at (sym (t .judged) ∙ e)
 
+    pub few-bits : r .tested < 2 ^ 48
+    few-bits = let w = t .going .tested in rw (w .bits) (bits-most 48 (w .before))
+
     pub told : Sized text (r .place) (r .held) x
     told = rw is at (sized cards text (t .octets) (r .place) (r .held))
 
     pub comes-whole : comes cards text (left - 1) at r x ≡ whole cards text
     unfolding walk
     comes-whole =
-        rw (t .here .1) (sym (comes-so cards text (left - 1) (r .place) (r .steps) (r .exposures) (r .held) x told (t .going .reached)) ∙ by left (t .some) (t .going .same))
+        rw (t .here .1) (sym (comes-so cards text (left - 1) (r .place) (r .steps) (r .exposures) (r .tested) (r .held) x told (t .going .reached)) ∙ by left (t .some) (t .going .same))
       where
         by : (f : ℕ) → 0 < f → found cards text f r ≡ whole cards text
             → atop (r .steps) (r .exposures) (walkedOf (walked cards text (λ p′ o′. walk cards text (f - 1) p′ o′) (r .place) (r .held) x)) ≡ whole cards text
         by zero z h = absurd (omega arith)
         by (suc f) z h = let d : suc f - 1 ≡ f = omega arith in rw (d, ← is) h
 
-    pub going-on : (r′ : Round) → r′ ≡ roundPast text at r x → comes cards text (left - 1) at r x ≡ found cards text (left - 1) (roundPast text at r x) → Going cards text (left - 1) r′
-    going-on r′ er c =
+    -- the line lists tested so far, at this command, and after it
+    tested-whole : (before : List ℕ) → before ++ testedFrom cards text left (r .place) (r .held) ≡ allTested cards text
+        → before ++ (testedAt text (r .place) (r .held) ++ testedPast text (λ p′ o′. testedFrom cards text (left - 1) p′ o′) (r .place) (r .held) x) ≡ allTested cards text
+    unfolding testedFrom
+    tested-whole before h = by left (t .some) h
+      where
+        by : (f : ℕ) → 0 < f → before ++ testedFrom cards text f (r .place) (r .held) ≡ allTested cards text
+            → before ++ (testedAt text (r .place) (r .held) ++ testedPast text (λ p′ o′. testedFrom cards text (f - 1) p′ o′) (r .place) (r .held) x) ≡ allTested cards text
+        by zero z h = absurd (omega arith)
+        by (suc f) z h = let d : suc f - 1 ≡ f = omega arith in rw (d, ← is) h
+
+    pub tells-tests : Tests text (r .place) (r .held) x
+    tells-tests = rw is at (tests text (r .place) (r .held) cards)
+
+    -- a command that closes the round, or is no run raster, tests none
+    pub tested-end : testedPast text (λ p′ o′. testedFrom cards text (left - 1) p′ o′) (r .place) (r .held) x ≡ [] → testsList text (r .place) (r .held) ≡ false
+        → r .tested ≡ bitsOf 48 (allTested cards text)
+    tested-end e none = let w = t .going .tested in let h = rw (e, none) at (tested-whole (w .before) (w .all)) in w .bits ∙ ap (bitsOf 48) (sym (append-nil (w .before)) ∙ h)
+
+    -- one that is refused may have come to the test
+    pub tested-refused : testedPast text (λ p′ o′. testedFrom cards text (left - 1) p′ o′) (r .place) (r .held) x ≡ []
+        → cond (testsList text (r .place) (r .held)) (withList (r .tested) (rasterAt text (r .place) .list)) (r .tested) ≡ bitsOf 48 (allTested cards text)
+    tested-refused e =
+        by-test (testsList text (r .place) (r .held))
+        (λ y.
+        let w = t .going .tested in
+        let h = rw (e, y) at (tested-whole (w .before) (w .all)) in
+        rw (y, w .bits, bits-more (w .before) (rasterAt text (r .place) .list) (tests-run text (r .place) (r .held) y .1)) (ap (bitsOf 48) h))
+        (λ n. rw n (tested-end e n))
+
+    pub going-on : (r′ : Round) → r′ ≡ roundPast text at r x → Goes x → comes cards text (left - 1) at r x ≡ found cards text (left - 1) (roundPast text at r x)
+        → Going cards text (left - 1) r′
+    going-on r′ er g c =
         let d : suc (left - 1) ≡ left = omega arith in
         let w : Within (suc (left - 1)) r = rw d (t .going .within) in
-        let v = within-past text (left - 1) (r .place) (r .steps) (r .exposures) (t .octets) (omega (arith, t .here, t .fair .size)) (r .held) x told w in
-        let h = reached-past cards text (left - 1) (r .place) (r .steps) (r .exposures) (r .held) x told (t .going .reached) in
-        rw er record { same = sym c ∙ comes-whole; within = rw (t .here .1) v; reached = rw (t .here .1) h }
+        let v = within-past text (left - 1) (r .place) (r .steps) (r .exposures) (r .tested) (t .octets) (omega (arith, t .here, t .fair .size)) (r .held) x told w in
+        let h = reached-past cards text (left - 1) (r .place) (r .steps) (r .exposures) (r .tested) (r .held) x told (t .going .reached) in
+        let y = t .going .tested in
+        let u = tested-past cards text (left - 1) (r .place) (r .steps) (r .exposures) (r .tested) (r .held) (y .before) (y .bits) x told tells-tests g (tested-whole (y .before) (y .all)) in
+        rw er record { same = sym c ∙ comes-whole; within = rw (t .here .1) v; reached = rw (t .here .1) h; tested = rw (t .here .1) u }
 
 -- ── one sequence, taken alone
 abbrev LowWalked : Walked → Type 0
@@ -361,14 +459,18 @@ module _ (E : Env) where
         rw e (most-of (2 ^ 46) found (small-more l found (walk-small (E .cards) text o (omega (arith, cut-short, fair .size)) (length text) 4 Shut)))
 
     module _ (h : Header) (eh : h ≡ headerOf text) where
-      pub one-unfit : (f : Fault) → h ≡ Bad f → Faulty f ≡ walkedOf (checkOne E (take (E .format .size) full))
-      unfolding checkOne
-      one-unfit f e = rw (← cut, ← eh, e)
+      pub one-unfit : (f : Fault) → h ≡ Bad f → (Faulty f ≡ walkedOf (checkOne E (take (E .format .size) full))) × (0 ≡ bitsOf 48 (testedIn (E .cards) (take (E .format .size) full)))
+      unfolding checkOne testedIn
+      one-unfit f e = (rw (← cut, ← eh, e), rw (← cut, ← eh, e) (sym (bits-none 48)))
 
       pub one-rounds : (q : ℕ) (w r : Walked) → h ≡ Repeats q → w ≡ walkedOf (walk (E .cards) text (length text) 4 Shut) → r ≡ allRounds (E .format) q w
           → r ≡ walkedOf (checkOne E (take (E .format .size) full))
       unfolding checkOne
       one-rounds q w r e ew er = rw (← cut, ← eh, e, walked-rounds q, ← ew) er
+
+      pub one-tested : (q b : ℕ) → h ≡ Repeats q → b ≡ bitsOf 48 (allTested (E .cards) text) → b ≡ bitsOf 48 (testedIn (E .cards) (take (E .format .size) full))
+      unfolding testedIn
+      one-tested q b e eb = rw (← cut, ← eh, e) eb
 
   -- its totals and its call are no greater than they may be
   module _ (text : List ℕ) (w : Walked) (ew : w ≡ walkedOf (checkOne E text)) where

@@ -1,12 +1,15 @@
 pub mod Names
 pub mod Listing
 pub mod Reasons
+pub mod Bits
+pub mod Tested
 pub mod Frame
 pub mod Passing
 pub mod Counts
 pub mod Totals
 pub mod Samples
 pub mod Laws
+pub mod Apart
 pub mod Search
 pub mod Changes
 pub mod Rests

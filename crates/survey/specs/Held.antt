@@ -1,12 +1,13 @@
 -- For the proofs of the code, what it holds on its way: one sequence's findings without items, and the chain in arrays of numbers and marks.
-use Prim.Native.Nat.{ℕ, zero, suc, _+_, _*_, _≤_, _<_, _^_}
+use Prim.Native.Nat.{ℕ, zero, suc, _+_, _*_, _-_, _≤_, _<_, _^_}
 use mathlib.Core.Path.{_≡_}
 use mathlib.Core.Bool.{Bool, true, false, cond}
 use mathlib.Core.List.{List, [], _∷_, _++_, reverse}
 use lib.Dec.{ltb, eqb}
 use lib.ListN.{length, getD, replicate}
 use Rattle.memory.specs.declared.Format.{Format}
-use Rattle.sequence.specs.declared.Command.the-variants.{LoopBack}
+use Rattle.memory.specs.declared.Place.{Place}
+use Rattle.sequence.specs.declared.Command.the-variants.{RunRaster, LoopBack}
 use Rattle.sequence.specs.Text.{rowOf, fault, sizeAt}
 use Rattle.sequence.specs.Starts.{among}
 use Rattle.sequence.specs.Env.{Env, textOf}
@@ -27,6 +28,7 @@ use Rattle.survey.specs.declared.Report.{Report}
 use Rattle.survey.specs.declared.Rest.{Rest}
 use Rattle.survey.specs.Items.{itemSteps, itemExposures}
 use Rattle.survey.specs.Walk.{reasonFor}
+use Rattle.survey.specs.Tested.{hasList}
 use Rattle.survey.specs.Chain.{Told, told, total}
 use Rattle.survey.specs.Report.{padded}
 use Rattle.survey.specs.Still.{listsOver}
@@ -34,7 +36,16 @@ use Rattle.survey.specs.Still.{listsOver}
 -- ── a round
 -- past a command of this size, with this raster open after it, and so many steps and exposures more
 abbrev pub moved : ℕ → Opened → ℕ → ℕ → Round → Round
-moved size held k x r = record { place = r .place + size; held = held; steps = r .steps + k; exposures = r .exposures + x }
+moved size held k x r = record { place = r .place + size; held = held; steps = r .steps + k; exposures = r .exposures + x; tested = r .tested }
+
+-- the number of a set of line lists, with line list k
+abbrev pub withList : ℕ → ℕ → ℕ
+withList bits k = cond (hasList bits k) bits (bits + 2 ^ (47 - k))
+
+-- past the run raster at a place, which names this line list
+abbrev pub openedIn : Place → ℕ → Round → Round
+openedIn at k r =
+    record { place = r .place + rowOf RunRaster .size; held = Open at 0 0; steps = r .steps; exposures = r .exposures; tested = withList (r .tested) k }
 
 -- no number of it passes its width
 pub record RoomFor (size k x : ℕ) (r : Round) : Type 0 where

@@ -1,6 +1,7 @@
 pub mod Turns
 pub mod Items
 pub mod Walk
+pub mod Tested
 pub mod Chain
 pub mod Report
 pub mod Frame

@@ -8,15 +8,18 @@ use Rattle.memory.specs.Memory.{fills}
 use Rattle.sequence.specs.declared.ReasonNumbers.{ReasonNumbers}
 use Rattle.sequence.specs.Text.{fault}
 use Rattle.sequence.specs.LineList.{reasonAs, badShown}
-use Rattle.sequence.specs.Env.{envOf}
+use Rattle.sequence.specs.declared.ListCard.{ListCard}
+use Rattle.sequence.specs.Env.{Env, envOf}
 use Rattle.survey.specs.declared.Ending.{Ending}
 use Rattle.survey.specs.declared.Ending.the-variants.{Unlisted, Finishes, Returns, Faults}
 use Rattle.survey.specs.declared.Reason.{Reason}
 use Rattle.survey.specs.declared.Reason.the-variants.{None, OfList, Mark}
 use Rattle.survey.specs.declared.Walked.{Walked}
 use Rattle.survey.specs.declared.Walked.the-variants.{Faulty, Closed}
+use Rattle.survey.specs.declared.Alone.{Alone}
 use Rattle.survey.specs.declared.Report.{Report}
 use Rattle.survey.specs.Walk.{Finding, passes, faults, checkOne}
+use Rattle.survey.specs.Tested.{testedIn, bitsOf}
 use Rattle.survey.specs.Chain.{Told}
 
 -- 0 nothing listed, 1 ends, 2 returns, 3 fault; its code; a fault's sequence and place
@@ -62,3 +65,16 @@ walkedOf (faults f reason) = Faulty f
 -- one sequence's text, taken alone, of at most an entry's bytes; "an unknown kind is 16"
 unfoldable pub checkAlone : Format → List ℕ → List ℕ → Walked
 checkAlone F lists text = cond (fills F) (walkedOf (checkOne (envOf F lists) (take (F .size) text))) (Faulty (fault 16 0))
+
+-- a fault's reason
+abbrev pub reasonFound : Finding → Reason
+reasonFound (passes k x is p c) = None
+reasonFound (faults f reason) = reason
+
+-- and with the reason, and the line lists that the check came to test
+abbrev pub aloneIn : Env → List ℕ → Alone
+aloneIn E text = record { found = walkedOf (checkOne E text); reason = reasonFound (checkOne E text); tested = bitsOf 48 (testedIn (E .cards) text) }
+
+unfoldable pub aloneOf : Format → (ℕ → ListCard) → List ℕ → Alone
+aloneOf F cards text =
+    cond (fills F) (aloneIn (record { format = F; cards = cards }) (take (F .size) text)) (record { found = Faulty (fault 16 0); reason = None; tested = 0 })

@@ -1,24 +1,26 @@
 // The table check: it reads and does not run.
 ghost use mathlib.Core.Path.{_≡_};
 ghost use Prim.Native.Nat.{ℕ, _+_, _*_, _-_, _≤_, _<_, _^_};
-ghost use mathlib.Core.Bool.{true, false, _&&_, _||_};
+ghost use mathlib.Core.Bool.{true, false, cond, _&&_, _||_};
 ghost use mathlib.Core.List.{List};
 ghost use lib.Dec.{ltb};
 ghost use lib.ListN.{length, take, getD};
 ghost use Rattle.octets.specs.Bytes.{byteAt};
 ghost use Rattle.memory.specs.Memory.{formatOf, fills, tablesWrong, addressOf};
-ghost use Rattle.sequence.specs.declared.Command.the-variants.{LoopBack};
-ghost use Rattle.sequence.specs.Text.{rowOf, sizeAt};
+ghost use Rattle.sequence.specs.declared.Command.the-variants.{RunRaster, LoopBack};
+ghost use Rattle.sequence.specs.Text.{rowOf, fault, sizeAt};
 ghost use Rattle.sequence.specs.Starts.{among};
 ghost use Rattle.sequence.specs.Raster.{rasterAt};
-ghost use Rattle.sequence.specs.Env.{cardsOf, envOf};
+ghost use Rattle.sequence.specs.Env.{cardsLent, envOf, envLent};
 ghost use Rattle.survey.specs.Items.{rasterSteps, rasterExposures};
 ghost use Rattle.survey.specs.Walk.{oneMore, reasonFor, walk, checkOne, findingOf};
+ghost use Rattle.runner.specs.Judge.{testsList};
+ghost use Rattle.survey.specs.Tested.{testedFrom, testedIn, bitsOf, hasList};
 ghost use Rattle.survey.specs.Chain.{total, follow, checkOf};
-ghost use Rattle.survey.specs.Report.{reasonShown, reportOf, walkedOf, checkAlone};
+ghost use Rattle.survey.specs.Report.{reasonShown, reportOf, walkedOf, checkAlone, aloneOf};
 ghost use Rattle.survey.specs.Frame.{listsUsed};
 ghost use Rattle.survey.specs.Still.{another, changedIn, firstOf, lowestChanged, standingAt, stillOf};
-ghost use Rattle.survey.specs.Held.{moved, RoomFor, exposuresIn, pauseIn, between, loopedIn, allRounds, AtMost, unmarked, Marked, Free, Is, LowCall, joined, ahead, emptyChain, reasoned, reported, MarkedJust, RestOf};
+ghost use Rattle.survey.specs.Held.{moved, openedIn, withList, RoomFor, exposuresIn, pauseIn, between, loopedIn, allRounds, AtMost, unmarked, Marked, Free, Is, LowCall, joined, ahead, emptyChain, reasoned, reported, MarkedJust, RestOf};
 use memory::Address;
 use memory::Addressed;
 use memory::Format;
@@ -29,6 +31,7 @@ use runner::Opened;
 use sequence::BadList;
 use sequence::Fault;
 use sequence::Header;
+use sequence::Lent;
 use sequence::ListCard;
 use sequence::ReasonNumbers;
 
@@ -81,12 +84,28 @@ pub struct Chain {
     pub exposures: u64,
 }
 
-// What one round of a text has come to so far: the next command's place, the open raster, and the steps and exposures.
+// What one round of a text has come to so far: the next command's place, the open raster, the steps and exposures, and the line lists tested,
+// a bit for each.
 struct Round {
     place: u8,
     held: Opened,
     steps: u64,
     exposures: u64,
+    tested: u64,
+}
+
+// What one sequence's text comes to, and the line lists that its check came to test, a bit for each.
+struct Surveyed {
+    found: Walked,
+    tested: u64,
+}
+
+// What is known of one sequence, taken alone: what its text comes to, the reason of a fault, and the line lists that its check came to test, a bit
+// for each.
+pub struct Alone {
+    pub found: Walked,
+    pub reason: Reason,
+    pub tested: u64,
 }
 
 // A chain and how it ends.
@@ -174,6 +193,16 @@ fn one_more(held: Opened) -> Opened
     }
 }
 
+// Whether a set of line lists, a bit for each, has this one: list 0 is the most significant of 48 bits.
+pub fn has_list(lists: u64, k: u8) -> bool
+    ensures { λ r. ⌜ r ≡ hasList lists k ⌝ }
+{
+    if memory::LAST_LINE_LIST < k {
+        return false;
+    }
+    (lists >> (memory::LAST_LINE_LIST - k)) % 2 == 1
+}
+
 // The steps of a delay: one of its own where no raster is open.
 fn pause(held: Opened) -> u64
     ensures { λ r. ⌜ r ≡ pauseIn held ⌝ }
@@ -181,6 +210,18 @@ fn pause(held: Opened) -> u64
     match held {
         Opened::Shut => 1,
         Opened::Open(_, _, _) => 0,
+    }
+}
+
+// A set of line lists, a bit for each, with this one.
+fn with_list(lists: u64, k: u8) -> u64
+    requires { ⌜ (k ≤ 47) × (lists < 2 ^ 48) ⌝ }
+    ensures { λ r. ⌜ r ≡ withList lists k ⌝ }
+{
+    if has_list(lists, k) {
+        lists
+    } else {
+        lists + (1 << (memory::LAST_LINE_LIST - k))
     }
 }
 
@@ -195,6 +236,21 @@ impl Round {
             held,
             steps: self.steps + steps,
             exposures: self.exposures + exposures,
+            tested: self.tested,
+        }
+    }
+
+    // The round past the run raster at its place, which is obeyed and names this line list.
+    fn opens(self, at: Place, list: u8) -> Round
+        requires { ⌜ RoomFor (rowOf RunRaster .size) 0 0 self × (list ≤ 47) × (self .tested < 2 ^ 48) ⌝ }
+        ensures { λ r. ⌜ r ≡ openedIn at list self ⌝ }
+    {
+        Round {
+            place: self.place + sequence::RUN_RASTER.size,
+            held: Opened::Open(at, 0, 0),
+            steps: self.steps,
+            exposures: self.exposures,
+            tested: with_list(self.tested, list),
         }
     }
 
@@ -215,40 +271,70 @@ impl Round {
     }
 
     // The round closed by the command at its place, which is a step too.
-    fn closes(self, closing: Closing) -> Walked
+    fn closes(self, closing: Closing) -> Surveyed
         requires { ⌜ self .steps + 1 < 2 ^ 64 ⌝ }
-        ensures { λ r. ⌜ r ≡ Walked.Closed (self .place) closing (self .steps + 1) (self .exposures) ⌝ }
+        ensures { λ r. ⌜ (r .found ≡ Walked.Closed (self .place) closing (self .steps + 1) (self .exposures)) × (r .tested ≡ self .tested) ⌝ }
     {
-        Walked::Closed {
-            place: self.place,
-            closing,
-            steps: self.steps + 1,
-            exposures: self.exposures,
+        Surveyed {
+            found: Walked::Closed {
+                place: self.place,
+                closing,
+                steps: self.steps + 1,
+                exposures: self.exposures,
+            },
+            tested: self.tested,
         }
+    }
+
+    // The round ended by a fault at its place.
+    fn fails(self, code: u8) -> Surveyed
+        ensures { λ r. ⌜ (r .found ≡ Walked.Faulty (fault code (self .place))) × (r .tested ≡ self .tested) ⌝ }
+    {
+        Surveyed {
+            found: Walked::Faulty(Fault {
+                code,
+                place: self.place,
+            }),
+            tested: self.tested,
+        }
+    }
+
+    // The round ended by the refusal of the command at its place: a run raster may have come to the test of its line list.
+    fn refused(self, text: &[u8], at: Place, code: u8) -> Surveyed
+        requires { ⌜ self .tested < 2 ^ 48 ⌝ }
+        ensures { λ r. ⌜ (r .found ≡ Walked.Faulty (fault code (self .place))) × (r .tested ≡ cond (testsList (now (text .entry)) (at .0) (self .held)) (withList (self .tested) (rasterAt (now (text .entry)) (at .0) .list)) (self .tested)) ⌝ }
+    {
+        let held = self.held;
+        if runner::tests_list(text, at, held) {
+            let tested = with_list(self.tested, sequence::list_at(text, at));
+            return Round { tested, ..self }.fails(code);
+        }
+        self.fails(code)
     }
 }
 
 // One round of a text: its commands in order from place 4 on, at most as many as it has bytes.
-fn walk(format: Format, text: &[u8], lists: &[u8]) -> Walked
+fn walk(format: Format, text: &[u8], lent: Lent, lists: &[u8]) -> Surveyed
     requires { ⌜ (fills format ≡ true) × (length (now text) ≤ format .size) ⌝ }
-    ensures { λ r. ⌜ r ≡ walkedOf (walk (cardsOf (now (lists .entry))) (now (text .entry)) (length (now (text .entry))) 4 Opened.Shut) ⌝ }
+    ensures { λ r. ⌜ r .found ≡ walkedOf (walk (cardsLent lent (now (lists .entry))) (now (text .entry)) (length (now (text .entry))) 4 Opened.Shut) ⌝ }
+    ensures { λ r. ⌜ r .tested ≡ bitsOf 48 (testedFrom (cardsLent lent (now (lists .entry))) (now (text .entry)) (length (now (text .entry))) 4 Opened.Shut) ⌝ }
 {
     let mut round = Round {
         place: 4,
         held: Opened::Shut,
         steps: 0,
         exposures: 0,
+        tested: 0,
     };
     let mut left = text.len();
     while 0 < left {
-        let place = round.place;
-        let Placed::At(at) = Place::of(format, place) else {
-            return Walked::Faulty(Fault { code: 3, place });
+        let Placed::At(at) = Place::of(format, round.place) else {
+            return round.fails(3);
         };
         let held = round.held;
-        round = match runner::judge(text, lists, at, held) {
-            Act::Refused(code) => return Walked::Faulty(Fault { code, place }),
-            Act::Opens => { round.past(sequence::RUN_RASTER.size, Opened::Open(at, 0, 0), 0, 0) }
+        round = match runner::judge(text, lent, lists, at, held) {
+            Act::Refused(code) => return round.refused(text, at, code),
+            Act::Opens => round.opens(at, sequence::list_at(text, at)),
             Act::Exposes(_) => round.past(sequence::EXPOSE.size, one_more(held), 0, 0),
             Act::Loops(t) => round.loops(format, text, t),
             Act::Waits => round.past(sequence::DELAY.size, held, pause(held), 0),
@@ -257,10 +343,7 @@ fn walk(format: Format, text: &[u8], lists: &[u8]) -> Walked
         };
         left -= 1;
     }
-    Walked::Faulty(Fault {
-        code: 3,
-        place: round.place,
-    })
+    round.fails(3)
 }
 
 // All rounds of a sequence, from what one comes to; a call above the last sequence's number is a fault of the last round.
@@ -297,14 +380,25 @@ fn all_rounds(format: Format, repeats: u8, round: Walked) -> Walked
 }
 
 // One sequence's text, taken alone: at most the bytes of an entry are read.
-fn check_text(format: Format, text: &[u8], lists: &[u8]) -> Walked
+fn check_text(format: Format, text: &[u8], lent: Lent, lists: &[u8]) -> Surveyed
     requires { ⌜ fills format ≡ true ⌝ }
-    ensures { λ r. ⌜ r ≡ walkedOf (checkOne (envOf format (now (lists .entry))) (take (format .size) (now (text .entry)))) ⌝ }
+    ensures { λ r. ⌜ r .found ≡ walkedOf (checkOne (envLent format lent (now (lists .entry))) (take (format .size) (now (text .entry)))) ⌝ }
+    ensures { λ r. ⌜ r .tested ≡ bitsOf 48 (testedIn (cardsLent lent (now (lists .entry))) (take (format .size) (now (text .entry)))) ⌝ }
 {
     let entry = octets::part(text, 0, format.size as usize);
     match sequence::header_of(entry) {
-        Header::Bad(fault) => Walked::Faulty(fault),
-        Header::Repeats(repeats) => all_rounds(format, repeats, walk(format, entry, lists)),
+        Header::Bad(fault) => Surveyed {
+            found: Walked::Faulty(fault),
+            tested: 0,
+        },
+        Header::Repeats(repeats) => {
+            let round = walk(format, entry, lent, lists);
+            let one = round.found;
+            Surveyed {
+                found: all_rounds(format, repeats, one),
+                tested: round.tested,
+            }
+        }
     }
 }
 
@@ -315,11 +409,11 @@ pub fn check_one(kind: u32, text: &[u8], lists: &[u8]) -> Walked
     if memory::BENCH < kind {
         return Walked::Faulty(Fault { code: 16, place: 0 });
     }
-    check_text(Format::of(kind), text, lists)
+    check_text(Format::of(kind), text, Lent::Lists, lists).found
 }
 
 // Nothing listed.
-fn empty() -> Chain
+pub fn empty() -> Chain
     ensures { λ r. ⌜ r ≡ emptyChain ⌝ }
 {
     Chain {
@@ -341,7 +435,9 @@ fn check_sequence(format: Format, seqs: &[u8], lists: &[u8], n: u8, mut chain: C
     chain.listed[at] = n;
     chain.marks[mark] = true;
     chain.count = at + 1;
-    match check_text(format, memory::entry(format, seqs, n), lists) {
+    let text = memory::entry(format, seqs, n);
+    let found = check_text(format, text, Lent::Lists, lists).found;
+    match found {
         Walked::Faulty(fault) => Checked {
             chain,
             ending: Ending::Faults(n, fault, Reason::None),
@@ -389,7 +485,7 @@ fn check_closing(
 }
 
 // A sum over the chain as it is reported: 0 unless the chain ends or returns.
-fn total(ending: Ending, sum: u64) -> u64
+pub fn total(ending: Ending, sum: u64) -> u64
     ensures { λ r. ⌜ r ≡ total ending sum 0 ⌝ }
 {
     match ending {
@@ -432,15 +528,19 @@ fn list_named(format: Format, text: &[u8], number: u8) -> u8
 
 // The reason of a fault in a text: of a 7 what the test answers for the line list that the run raster at its place names; where that is
 // good, a mark is missing.
-fn reason_for(format: Format, text: &[u8], lists: &[u8], fault: Fault) -> Reason
+fn reason_for(format: Format, text: &[u8], lent: Lent, lists: &[u8], fault: Fault) -> Reason
     requires { ⌜ length (now text) ≤ format .size ⌝ }
-    ensures { λ r. ⌜ r ≡ reasonFor (cardsOf (now (lists .entry))) (now (text .entry)) fault ⌝ }
+    ensures { λ r. ⌜ r ≡ reasonFor (cardsLent lent (now (lists .entry))) (now (text .entry)) fault ⌝ }
 {
     if fault.code != 7 {
         return Reason::None;
     }
     let n = list_named(format, text, fault.place);
-    match sequence::list_card(memory::list(lists, n), false) {
+    let card = match lent {
+        Lent::Lists => sequence::list_card(memory::list(lists, n), false),
+        Lent::Cards => sequence::kept_card(lists, n, false),
+    };
+    match card {
         ListCard::Good(_) => Reason::Mark,
         ListCard::Bad(bad) => Reason::OfList(bad),
     }
@@ -453,7 +553,11 @@ fn reasoned(format: Format, seqs: &[u8], lists: &[u8], ending: Ending) -> Ending
     match ending {
         Ending::Faults(n, fault, _) => {
             let text = memory::entry(format, seqs, n);
-            Ending::Faults(n, fault, reason_for(format, text, lists, fault))
+            Ending::Faults(
+                n,
+                fault,
+                reason_for(format, text, Lent::Lists, lists, fault),
+            )
         }
         Ending::Unlisted(code) => Ending::Unlisted(code),
         Ending::Finishes => Ending::Finishes,
@@ -502,6 +606,37 @@ pub fn check(kind: u32, seqs: &[u8], lists: &[u8], number: u32) -> Report
         return above.report(format, seqs, lists);
     }
     check_sequence(format, seqs, lists, number as u8, chain).report(format, seqs, lists)
+}
+
+// One sequence's text, taken alone, with what is lent of the line lists: what it comes to, its reason, and the line lists tested; 16 for no kind of tables.
+pub fn taken_alone(kind: u32, text: &[u8], lent: Lent, lists: &[u8]) -> Alone
+    ensures { λ r. ⌜ r ≡ aloneOf (formatOf kind) (cardsLent lent (now (lists .entry))) (now (text .entry)) ⌝ }
+{
+    if memory::BENCH < kind {
+        return Alone {
+            found: Walked::Faulty(Fault { code: 16, place: 0 }),
+            reason: Reason::None,
+            tested: 0,
+        };
+    }
+    let format = Format::of(kind);
+    let entry = octets::part(text, 0, format.size as usize);
+    let surveyed = check_text(format, text, lent, lists);
+    let found = surveyed.found;
+    let reason = match found {
+        Walked::Faulty(fault) => reason_for(format, entry, lent, lists, fault),
+        Walked::Closed {
+            place: _,
+            closing: _,
+            steps: _,
+            exposures: _,
+        } => Reason::None,
+    };
+    Alone {
+        found,
+        reason,
+        tested: surveyed.tested,
+    }
 }
 
 // The marks, with those of the line lists that the run rasters of a text name.

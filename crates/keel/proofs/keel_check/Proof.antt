@@ -6,17 +6,17 @@ use borrow.Author.Tests.{eq-eqb, ne-eqb}
 use lib.ListN.{length}
 use Rattle.memory.specs.Memory.{formatOf}
 use Rattle.survey.specs.Chain.{checkOf}
-use Rattle.keel.specs.Report.{checkAnswer, reportAfter}
+use Rattle.keel.specs.Report.{toldAnswer, toldReport, checkAnswer, reportAfter}
 use borrow.Author.Needs.{needs}
 use Rattle.keel.proofs.keel_check.Statement.{statement}
 use Rattle.keel.proofs.keel_check.Tie as tie
 
 returns : tie.Need-returns
-unfolding checkAnswer reportAfter
+unfolding checkAnswer reportAfter toldAnswer toldReport
 returns c = let n = ne-eqb (length (c .before .before .before .before .args .report .now)) 152 (c .if1 .taken) in (simp n, simp n)
 
 returns-2 : tie.Need-returns-2
-unfolding reportOf checkAnswer reportAfter
+unfolding reportOf checkAnswer reportAfter toldAnswer toldReport
 returns-2 c = let a = c .before .before .before .before .before .before .before .before .before .args in
     let y = eq-eqb (length (a .report .now)) 152 (c .before .before .before .before .before .if1 .left) in
     let e = c .before .before .before .before .check .ensures in

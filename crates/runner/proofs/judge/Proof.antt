@@ -3,7 +3,7 @@ use Prim.Native.Nat.{_+_, _<_}
 use mathlib.Core.Path.{_≡_, refl}
 use Rattle.sequence.specs.declared.Command.{Command}
 use Rattle.sequence.specs.Text.{sizeAt}
-use Rattle.sequence.specs.Env.{cardsOf}
+use Rattle.sequence.specs.Env.{cardsLent}
 use Rattle.runner.specs.declared.Act.{Act}
 use Rattle.runner.specs.Judge.{judged, judge}
 use Rattle.runner.proofs.Laws.{none-judged}
@@ -12,8 +12,8 @@ use Rattle.runner.proofs.judge.Statement.{statement}
 use Rattle.runner.proofs.judge.Tie as tie
 
 comes : (c : tie.After-command-at) (k : Command) (x : Act) → c .command-at .result ≡ k
-    → let a = c .before .before .before .args in x ≡ judged (cardsOf (a .lists .now)) (a .text .now) (a .at .0) (a .held) k
-    → (x ≡ judge (cardsOf (a .lists .now)) (a .text .now) (a .at .0) (a .held)) × (a .at .0 + sizeAt (a .text .now) (a .at .0) < 256)
+    → let a = c .before .before .before .args in x ≡ judged (cardsLent (a .lent) (a .lists .now)) (a .text .now) (a .at .0) (a .held) k
+    → (x ≡ judge (cardsLent (a .lent) (a .lists .now)) (a .text .now) (a .at .0) (a .held)) × (a .at .0 + sizeAt (a .text .now) (a .at .0) < 256)
 unfolding judge sizeAt
 comes c k x e f = let r = c .command-at in (rw (← e, r .ensures .0) at f, rw (r .ensures .0) at (r .ensures .1))
 
@@ -46,4 +46,4 @@ judge-spec =
     (λ c. comes (c .before .before .before .before .before) _ _ (c .before .before .before .command3 .given .1) (rw (c .unless4 .ensures, c .before .close-fault .ensures)))
     (λ c. comes (c .before .before .before .before) _ _ (c .before .before .enum-told2 .given .1) (rw (c .unless5 .ensures, c .before .close-fault2 .ensures)))
     (λ c. comes (c .before .before) _ _ (c .enum-told3 .given .1) refl)
-    (λ c. let a = c .before .before .before .before .args in comes (c .before) _ _ refl (none-judged (cardsOf (a .lists .now)) (a .text .now) (a .at .0) (a .held) (c .before .command-at .result) (c .match .keys7))))
+    (λ c. let a = c .before .before .before .before .args in comes (c .before) _ _ refl (none-judged (cardsLent (a .lent) (a .lists .now)) (a .text .now) (a .at .0) (a .held) (c .before .command-at .result) (c .match .keys7))))

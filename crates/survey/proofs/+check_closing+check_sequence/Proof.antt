@@ -82,13 +82,13 @@ module _ (t : ℕ) (w : check-sequence-lts.After-check-text (check-sequence-call
   abbrev start : check-sequence-lts.Start (check-sequence-calls t) (check-sequence-at t) check-sequence.Post
   start = w .before .before .before .before
 
-  visit : Visit (start .args .format) (start .args .lists .now) (start .args .seqs .now) (start .args .t5) (start .args .n) (w .check-text .result)
+  visit : Visit (start .args .format) (start .args .lists .now) (start .args .seqs .now) (start .args .t5) (start .args .n) (w .check-text .result .found)
   visit =
       record {
         fair = fair-of (start .args .format) (start .pre .1 .0);
         octets = λ k. w .before .before .before .shared-slice-known .given k .fits;
         free = start .pre .1 .1;
-        found = of-entry (start .args .format) (start .args .lists .now) (start .args .seqs .now) (start .args .n) _ _ (w .before .entry .ensures) (w .check-text .ensures);
+        found = of-entry (start .args .format) (start .args .lists .now) (start .args .seqs .now) (start .args .n) _ _ (w .before .entry .ensures) (w .check-text .ensures .0);
       }
 
 check-sequence-element-write-chain : (t : ℕ) → check-sequence-lts.Need-element-write-chain (check-sequence-calls t) (check-sequence-at t) check-sequence.Post
@@ -104,21 +104,21 @@ check-sequence-check-text-requires : (t : ℕ) → check-sequence-lts.Need-check
 check-sequence-check-text-requires t c κs = c .before .before .before .pre .1 .0
 
 check-sequence-add-chain-2 : (t : ℕ) → check-sequence-lts.Need-add-chain-2 (check-sequence-calls t) (check-sequence-at t) check-sequence.Post
-check-sequence-add-chain-2 t c = let f = next-fits (visit t (c .before .before .before)) _ _ _ _ (c .before .closing .given .1) in omega arith
+check-sequence-add-chain-2 t c = let f = next-fits (visit t (c .before .before .before)) _ _ _ _ (c .before .found2 .given .1) in omega arith
 
 check-sequence-add-chain-3 : (t : ℕ) → check-sequence-lts.Need-add-chain-3 (check-sequence-calls t) (check-sequence-at t) check-sequence.Post
-check-sequence-add-chain-3 t c = let f = next-fits (visit t (c .before .before .before)) _ _ _ _ (c .before .closing .given .1) in omega arith
+check-sequence-add-chain-3 t c = let f = next-fits (visit t (c .before .before .before)) _ _ _ _ (c .before .found2 .given .1) in omega arith
 
 check-sequence-check-closing-requires : (t : ℕ) → check-sequence-lts.Need-check-closing-requires (check-sequence-calls t) (check-sequence-at t) check-sequence.Post
 check-sequence-check-closing-requires t c κs = let v = visit t (c .before .before .before) in
-    let e = c .before .closing .given .1 in
+    let e = c .before .found2 .given .1 in
     (omega (arith, c .before .before .before .before .before .before .before .pre .0, next-fewer v _ _ _ _ e), (start t (c .before .before .before) .pre .1 .0, next-kept v _ _ _ _ e, next-low v _ _ _ _ e))
 
 check-sequence-returns : (t : ℕ) → check-sequence-lts.Need-returns (check-sequence-calls t) (check-sequence-at t) check-sequence.Post
-check-sequence-returns t c = seq-fault (visit t (c .before .before .before)) _ (c .before .fault .given .1)
+check-sequence-returns t c = seq-fault (visit t (c .before .before .before)) _ (c .before .found .given .1)
 
 check-sequence-returns-2 : (t : ℕ) → check-sequence-lts.Need-returns-2 (check-sequence-calls t) (check-sequence-at t) check-sequence.Post
-check-sequence-returns-2 t c = seq-next (visit t (c .before .before .before .before)) _ _ _ _ (c .before .before .closing .given .1) _ (c .check-closing .ensures)
+check-sequence-returns-2 t c = seq-next (visit t (c .before .before .before .before)) _ _ _ _ (c .before .before .found2 .given .1) _ (c .check-closing .ensures)
 
 pub +check-closing+check-sequence-spec : {M : Type 1} → statement M
 +check-closing+check-sequence-spec =

@@ -14,7 +14,7 @@ check-text-requires c κs = rw (c .of .ensures) (kind-fills _ (c .before .if1 .l
 
 returns-2 : tie.Need-returns-2
 unfolding checkAlone
-returns-2 c = let k = c .before .before in simp (kind-fills _ (k .if1 .left)) (rw (c .before .of .ensures) at (c .check-text .ensures))
+returns-2 c = let k = c .before .before in simp (kind-fills _ (k .if1 .left)) (rw (c .before .of .ensures) at (c .check-text .ensures .0))
 
 pub check-one-spec : {M : Type 1} → statement M
 check-one-spec = tie.close (tie.spec returns (λ c κs. search needs) check-text-requires returns-2)

@@ -21,9 +21,9 @@ start-at-requires c κs =
     let a = b .before .before .before .before .before .args in
     rw (c .repeat-begun .ensures) (path-passed (cardsOf (a .lists .now)) (a .text .now) (a .at .0) (b .before .before .opened .result) (sym (b .before .run-fault .ensures) ∙ b .if1 .left))
 
-add-t36 : tie.Need-add-t36
+add-t37 : tie.Need-add-t37
 unfolding sizeOf
-add-t36 c = let h = c .before .before .before .before .before .before .before .before .before .pre .1 .fits in search needs
+add-t37 c = let h = c .before .before .before .before .before .before .before .before .before .pre .1 .fits in search needs
 
 returns-2 : tie.Need-returns-2
 unfolding act
@@ -47,7 +47,7 @@ run-raster-spec =
     start-at-requires
     (λ c κs. search needs)
     (λ c κs. search needs)
-    add-t36
+    add-t37
     (λ c κs. search needs)
     (λ c κs. search needs)
     (λ c κs. search needs)

@@ -1,0 +1,4 @@
+pub mod Card
+pub mod Summary
+pub mod Chain
+pub mod Held
