@@ -1,5 +1,7 @@
 // The summary at the desk: standard input is the two dumps put together, and a line is shown for each card. A first argument `old` says that the
 // tables are of the old kind.
+#![tactic(auto)]
+
 use libc::{STDIN_FILENO, STDOUT_FILENO};
 use memory::Format;
 

@@ -1,5 +1,7 @@
 // The desk: packets and steps from standard input, answers and events to standard output; `desk old` for a unit of the old kind. Text waits
 // to be written until a piece of input is worked off, or until it has no room left; so a person sees each answer before the next read.
+#![tactic(auto)]
+
 ghost use Rattle.std.specs.Prelude.{◌<◌, ◌≤◌, length};
 
 use libc::{STDIN_FILENO, STDOUT_FILENO};

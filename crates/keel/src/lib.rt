@@ -1,4 +1,6 @@
 // The library for C: the unit and the table check as functions on numbers and byte slices. include/keel.h declares them.
+#![tactic(auto)]
+
 ghost use Rattle.std.specs.Prelude.{◌≡◌, ◌+◌, ◌*◌, ◌≤◌, ◌^◌, length};
 ghost use Rattle.memory.specs.Memory.{format_of};
 ghost use Rattle.runner.specs.Events.{shown_as};
@@ -151,7 +153,7 @@ pub extern "C" fn keel_step(kind: u32, state: &mut [u8], seqs: &[u8], lists: &[u
 }
 
 // How a check ends, as numbers.
-#[derive(Drop)]
+#[derive(Clone, Copy)]
 struct Verdict {
     code: u8,
     number: u8,

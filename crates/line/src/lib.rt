@@ -3,6 +3,8 @@
 // A writer lays its text over the output from a place on and answers the next place. It takes any output and any
 // place: bytes for which the output has no place are lost, and the next place is the same, so that a text can be
 // measured on an empty output.
+#![tactic(auto)]
+
 ghost use Rattle.std.specs.Prelude.{◌≡◌, true, cond, [], ◌∷◌, ◌+◌, ◌*◌, ◌≤◌, ◌<◌, length, drop};
 ghost use Rattle.line.specs.Digits.{digit_of, value_of, is_hex, hex_of, bytes_in, decimal, all, each};
 ghost use Rattle.line.specs.Writing.{put_over, Laid, spaced, comma, member, bits_text, marks_text, word_line, answer_text, reason_text, kind_text, block_text, event_text, bad_text};
@@ -20,7 +22,7 @@ const LAST: usize = 0xFFFF_FFFF_FFFF_FFFF;
 const HEX: u64 = 0x007E_0000_007E_03FF;
 
 // What a line says: a packet of so many bytes, so many steps, or neither.
-#[derive(Drop)]
+#[derive(Clone, Copy)]
 pub enum Line {
     Packet(usize),
     Steps(u16),
@@ -28,7 +30,7 @@ pub enum Line {
 }
 
 // A number from 0 to 65535 with no leading zero.
-#[derive(Drop)]
+#[derive(Clone, Copy)]
 pub enum Numeral {
     Value(u16),
     Wrong,

@@ -1,5 +1,7 @@
 // The two tables in memory: places, addresses, ranges that lie wholly in one table, the part that a range shows and
 // the write of a packet's bytes into it.
+#![tactic(auto)]
+
 ghost use Rattle.std.specs.Prelude.{◌≡◌, ◌++◌, ◌≤◌, length, drop};
 ghost use Rattle.memory.specs.Memory.{format_of, place_of, address_of, range_of, range_from, range_at, within, is_wrong, part_of, tables_wrong, window_code, window_part, written, seqs_written, lists_written, entry_of, list_of};
 
@@ -35,7 +37,7 @@ pub const FLIGHT: u32 = 0;
 pub const BENCH: u32 = 1;
 
 // The format of the sequence table: the size of an entry and the last sequence's number.
-#[derive(Drop)]
+#[derive(Clone, Copy)]
 pub struct Format {
     pub size: u16,
     pub last: u8,
@@ -63,11 +65,11 @@ impl Format {
 }
 
 // A place in a sequence. Only `Place::of` makes one.
-#[derive(Drop)]
+#[derive(Clone, Copy)]
 pub struct Place(u8);
 
 // What the range test of a place finds.
-#[derive(Drop)]
+#[derive(Clone, Copy)]
 pub enum Placed {
     At(Place),
     Outside,
@@ -94,11 +96,11 @@ impl Place {
 }
 
 // An address in one of the tables. Only `Address::of` makes one.
-#[derive(Drop)]
+#[derive(Clone, Copy)]
 pub struct Address(u32);
 
 // What the range test of an address finds.
-#[derive(Drop)]
+#[derive(Clone, Copy)]
 pub enum Addressed {
     Known(Address),
     Nowhere,
@@ -127,7 +129,7 @@ impl Address {
 }
 
 // A range of memory: in the sequence table or in the line lists at an offset, or wholly in neither.
-#[derive(Drop)]
+#[derive(Clone, Copy)]
 pub enum Range {
     Sequences(usize),
     LineLists(usize),
@@ -252,13 +254,14 @@ fn copy(src: &[u8], dst: &mut [u8])
     requires { length src.now ≤ length dst.old }
     ensures { dst.new ≡ src.now ++ drop (length src.now) dst.old }
 {
-    if LONGEST < src.len() {
-        bytes::copy(src, dst);
+    let n = src.len();
+    if LONGEST < n {
+        dst[..n].copy_from_slice(src);
         return;
     }
     let mut block = [0u8; LONGEST];
-    let n = bytes::copy(src, &mut block);
-    bytes::copy(&block[..n], dst);
+    block[..n].copy_from_slice(src);
+    dst[..n].copy_from_slice(&block[..n]);
 }
 
 // Writes bytes over a table from an offset on; where they do not fit, nothing.

@@ -1,4 +1,6 @@
 // Bytes of a lent slice, read by anyone at any place: past the end stands 0. Words are unsigned, high byte first.
+#![tactic(auto)]
+
 ghost use Rattle.std.specs.Prelude.{◌+◌, ◌*◌, min, ◌≡◌, cond, ◌&&◌, ◌||◌, length, take, drop};
 ghost use Rattle.octets.specs.Bytes.{byte_at, word_at, triple_at, eight, number_at, counted, xor_on};
 

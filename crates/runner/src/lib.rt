@@ -1,4 +1,6 @@
 // The interpreter: what the command at a place comes to, and what one step does with it.
+#![tactic(auto)]
+
 ghost use Rattle.std.specs.Prelude.{◌≡◌, ◌+◌, ◌*◌, ◌-◌, ◌/◌, ◌%◌, ◌<◌, ◌≤◌, cond, ltb, length};
 ghost use Rattle.octets.specs.Bytes.{byte_bit};
 ghost use Rattle.octets.specs.Rows.{first_code, NoneHolds};
@@ -15,7 +17,7 @@ use sequence::{Command, Fault, Header, Lent, ListCard, RasterWords};
 
 // The open raster: the run number of its repeat, from 0; the passes left; its place, 255 for none; the exposures made in the present set; the
 // repeats left; and the signed shift of the repeat's start, which is shown and never read.
-#[derive(Drop)]
+#[derive(Clone, Copy)]
 pub struct OpenRaster {
     pub run: u16,
     pub passes: u16,
@@ -26,7 +28,7 @@ pub struct OpenRaster {
 }
 
 // What the interpreter moves. A count left includes the pass, repeat or round under way; 0 is taken as 1.
-#[derive(Drop)]
+#[derive(Clone, Copy)]
 pub struct Runner {
     // the status sequence, 255 for none
     pub sequence: u8,
@@ -39,7 +41,7 @@ pub struct Runner {
 }
 
 // What a step shows, a case for each word that the desk prints.
-#[derive(Drop)]
+#[derive(Clone, Copy)]
 pub enum Event {
     Idle,
     Enter(u8),
@@ -57,14 +59,14 @@ pub enum Event {
     Abort(u8, u8, u8),
 }
 
-#[derive(Drop)]
+#[derive(Clone, Copy)]
 pub struct Stepped {
     pub event: Event,
     pub runner: Runner,
 }
 
 // What is seen of a step: its event, and the sequence, place and mirror after it.
-#[derive(Drop)]
+#[derive(Clone, Copy)]
 pub struct Sight {
     pub event: Event,
     pub sequence: u8,
@@ -73,21 +75,21 @@ pub struct Sight {
 }
 
 // The raster that is open: its place, the exposures made in the set and the run number.
-#[derive(Drop)]
+#[derive(Clone, Copy)]
 pub enum Opened {
     Shut,
     Open(Place, u8, u16),
 }
 
 // Where a repeat begins: the mirror's position, and its signed shift from the initial one.
-#[derive(Drop)]
+#[derive(Clone, Copy)]
 struct Start {
     position: u16,
     shift: i16,
 }
 
 // What the command at a place comes to: refused with a code, or what it does; an exposure names its raster's place.
-#[derive(Drop)]
+#[derive(Clone, Copy)]
 pub enum Act {
     Refused(u8),
     Opens,

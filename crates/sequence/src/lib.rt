@@ -1,5 +1,7 @@
 // Sequences and line lists as bytes: the commands of a text, a raster's words, and the tests of an entry, of a line list and
 // of the science flags. A text is one sequence's own bytes; every reader answers for every text.
+#![tactic(auto)]
+
 ghost use Rattle.std.specs.Prelude.{◌≡◌, ℕ, ◌+◌, ◌-◌, ◌/◌, ◌<◌, ◌≤◌, ◌&&◌, length, nat_le};
 ghost use Rattle.octets.specs.Bytes.{byte_at, word_at, byte_bit, xor_on};
 ghost use Rattle.sequence.specs.Text.{limit, length_good, xor_good, header_of, number_of, size_of, size_at, none_there, decoded, command_at, is_run_raster};
@@ -11,7 +13,7 @@ ghost use Rattle.sequence.specs.Env.{cards_kept, cards_lent};
 use memory::Place;
 
 // What stands at a place of a text: a command with its operand, or none there, one of an unknown number, or one that does not fit.
-#[derive(Drop)]
+#[derive(Clone, Copy)]
 pub enum Command {
     RunRaster,
     Expose(u16),
@@ -25,7 +27,7 @@ pub enum Command {
 }
 
 // A row of the table of commands: a command's number, and the bytes that it takes.
-#[derive(Drop)]
+#[derive(Clone, Copy)]
 pub struct CommandRow {
     pub op: u8,
     pub size: u8,
@@ -54,7 +56,7 @@ const COMMANDS: [CommandRow; 6] = [
 ];
 
 // The eleven words of a run raster, every field of them.
-#[derive(Drop)]
+#[derive(Clone, Copy)]
 pub struct RasterWords {
     pub id: u16,
     pub initial: u16,
@@ -77,21 +79,21 @@ pub struct RasterWords {
 }
 
 // Why a run stops: a code at a place.
-#[derive(Drop)]
+#[derive(Clone, Copy)]
 pub struct Fault {
     pub code: u8,
     pub place: u8,
 }
 
 // What the test of an entry finds: its repeats, or why it can't be entered.
-#[derive(Drop)]
+#[derive(Clone, Copy)]
 pub enum Header {
     Repeats(u8),
     Bad(Fault),
 }
 
 // Which marks the windows of a line list have among them: header bits 11, 12 and 13, for the AEC, event and flare flags.
-#[derive(Drop)]
+#[derive(Clone, Copy)]
 pub struct Marks {
     pub aec: bool,
     pub event: bool,
@@ -99,7 +101,7 @@ pub struct Marks {
 }
 
 // What makes a line list bad: the first of its tests that fails, with the checksum expected.
-#[derive(Drop)]
+#[derive(Clone, Copy)]
 pub enum BadList {
     WindowCount,
     Length,
@@ -107,7 +109,7 @@ pub enum BadList {
 }
 
 // What is known of a line list: it is good, with its marks, or bad.
-#[derive(Drop)]
+#[derive(Clone, Copy)]
 pub enum ListCard {
     Good(Marks),
     Bad(BadList),
@@ -117,21 +119,21 @@ pub enum ListCard {
 pub const CARD: usize = 4;
 
 // What is lent of the line lists: their own bytes, or their cards, four bytes each.
-#[derive(Drop)]
+#[derive(Clone, Copy)]
 pub enum Lent {
     Lists,
     Cards,
 }
 
 // What a walk over a line list gives: its XOR on the number that it began with, and the low bytes of its windows' headers, by OR.
-#[derive(Drop)]
+#[derive(Clone, Copy)]
 struct ListWalk {
     sum: u8,
     seen: u8,
 }
 
 // What is wrong with a line list, as numbers: which test, 0 for none, and the checksum expected.
-#[derive(Drop)]
+#[derive(Clone, Copy)]
 pub struct ReasonNumbers {
     pub number: u8,
     pub value: u8,

@@ -1,5 +1,7 @@
 // The unit kept as the 36 bytes of the library's state: read out of them, and what changed written over them. Nothing is written past
 // the end of a slice.
+#![tactic(auto)]
+
 ghost use Rattle.std.specs.Prelude.{◌≡◌, ◌+◌, ◌<◌, length, set};
 ghost use Rattle.std.proofs.lemmas.List.Edits.{sets};
 ghost use Rattle.octets.specs.Bytes.{word_at, two};

@@ -1,4 +1,6 @@
 // What the unit shows of itself: its counts and its log, what commands set, what a run leaves, and the status that is written of them.
+#![tactic(auto)]
+
 ghost use Rattle.std.specs.Prelude.{◌*◌, ◌%◌, ◌≡◌, cond, [], ◌∷◌, ltb, length, set};
 ghost use Rattle.std.proofs.lemmas.List.Edits.{sets};
 ghost use Rattle.octets.specs.Bytes.{halves, two, four};
@@ -12,7 +14,7 @@ use runner::{Event, Runner};
 pub const STATUS: usize = 104;
 
 // The log of the last packet: BC1, BC2, BC3, length.
-#[derive(Drop)]
+#[derive(Clone, Copy)]
 pub struct Log {
     pub bc1: u8,
     pub bc2: u8,
@@ -21,7 +23,7 @@ pub struct Log {
 }
 
 // What a refusal may change: the counts, the failure fields and the log.
-#[derive(Drop)]
+#[derive(Clone, Copy)]
 pub struct Ledger {
     pub received: u16,
     pub failed: u16,
@@ -31,7 +33,7 @@ pub struct Ledger {
 }
 
 // What commands set: the mode, whether mode changes are allowed, STATUS_PC, and the selection, 255 for none.
-#[derive(Drop)]
+#[derive(Clone, Copy)]
 pub struct Control {
     pub mode: u8,
     pub allowed: bool,
@@ -40,7 +42,7 @@ pub struct Control {
 }
 
 // What the status shows of the run beside the runner: line list, exposures since AUTO, abort code.
-#[derive(Drop)]
+#[derive(Clone, Copy)]
 pub struct Watch {
     pub list: u8,
     pub exposures: u16,
@@ -245,7 +247,7 @@ fn fill(ledger: Ledger, control: Control, watch: Watch, runner: Runner, time: u3
     let running = running_byte(runner.running);
     let sequence = or_zero(runner.sequence);
     let zeros = [0u8; STATUS];
-    bytes::copy(&zeros, out);
+    out.copy_from_slice(&zeros);
     put_head(out);
     control.put(ledger.code, out);
     put_time(time, out);

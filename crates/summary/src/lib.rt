@@ -1,5 +1,7 @@
 // The summary: a card for each sequence and one for each line list, kept beside the tables as lent bytes. It is made afresh, brought up to date after
 // an uplink, and the chain check reads it in place of the tables.
+#![tactic(auto)]
+
 ghost use Rattle.std.specs.Prelude.{◌≡◌, ℕ, suc, ◌+◌, ◌*◌, ◌-◌, ◌/◌, ◌≤◌, ◌<◌, ◌^◌, true, cond, ◌&&◌, ◌||◌, [], leb, length, drop};
 ghost use Rattle.octets.specs.Bytes.{number_at};
 ghost use Rattle.memory.specs.Memory.{format_of, fills, tables_wrong, written};
@@ -27,7 +29,7 @@ const UPLINK: u32 = 128;
 const TOO_MANY: u64 = 0x40000000000000;
 
 // The sequences whose cards are worked out again: all, or those that use one of two line lists.
-#[derive(Drop)]
+#[derive(Clone, Copy)]
 enum Named {
     All,
     Using(u8, u8),
@@ -35,7 +37,7 @@ enum Named {
 
 // The head of a sequence's card: whether it has a fault, the fault's place and code; how it closes, and the sequence called; and the reason of a 7, by number
 // and value.
-#[derive(Drop)]
+#[derive(Clone, Copy)]
 struct Head {
     fault: u8,
     place: u8,
@@ -47,7 +49,7 @@ struct Head {
 }
 
 // What a card says of its sequence: that no tables give it; a fault and its reason; or how it closes, with its steps and exposures.
-#[derive(Drop)]
+#[derive(Clone, Copy)]
 enum Said {
     Wrong,
     Faults(Fault, Reason),

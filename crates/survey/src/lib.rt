@@ -1,4 +1,6 @@
 // The table check: it reads and does not run.
+#![tactic(auto)]
+
 ghost use Rattle.std.specs.Prelude.{◌≡◌, ℕ, ◌+◌, ◌*◌, ◌-◌, ◌≤◌, ◌<◌, ◌^◌, true, false, cond, ◌&&◌, ◌||◌, List, ltb, length, take, get_or};
 ghost use Rattle.octets.specs.Bytes.{byte_at};
 ghost use Rattle.memory.specs.Memory.{format_of, fills, tables_wrong, address_of};
@@ -23,21 +25,21 @@ use sequence::{BadList, Fault, Header, Lent, ListCard, ReasonNumbers};
 
 // What a round of a sequence is made of: a delay outside rasters, by its place; or a raster, by its place, its loop back's target,
 // the loop back's place, the commands before the target and those from it up to the loop back.
-#[derive(Drop)]
+#[derive(Clone, Copy)]
 pub enum Item {
     Pause(u8),
     Scan(u8, u8, u8, u8, u8),
 }
 
 // How a sequence closes: with terminate, or with the call of a sequence.
-#[derive(Drop)]
+#[derive(Clone, Copy)]
 pub enum Closing {
     Terminates,
     CallsOn(u8),
 }
 
 // Why a fault is one, beyond its code: what makes a line list bad, or a mark that a raster misses in a good one; of any other nothing.
-#[derive(Drop)]
+#[derive(Clone, Copy)]
 pub enum Reason {
     None,
     OfList(BadList),
@@ -45,7 +47,7 @@ pub enum Reason {
 }
 
 // What one sequence's text comes to: a fault; or its closing command with its place, and the steps and exposures of all rounds.
-#[derive(Drop)]
+#[derive(Clone, Copy)]
 pub enum Walked {
     Faulty(Fault),
     Closed {
@@ -58,7 +60,7 @@ pub enum Walked {
 
 // How the check of a chain ends: nothing listed, with a code; at a terminate; at a sequence that is listed already; at a fault, with its
 // sequence and its reason.
-#[derive(Drop)]
+#[derive(Clone, Copy)]
 pub enum Ending {
     Unlisted(u8),
     Finishes,
@@ -67,7 +69,7 @@ pub enum Ending {
 }
 
 // The chain so far: the sequences listed, in order, a mark for each of them, and the totals.
-#[derive(Drop)]
+#[derive(Clone, Copy)]
 pub struct Chain {
     pub listed: [u8; memory::SEQUENCES],
     pub marks: [bool; memory::SEQUENCES],
@@ -78,7 +80,7 @@ pub struct Chain {
 
 // What one round of a text has come to so far: the next command's place, the open raster, the steps and exposures, and the line lists tested,
 // a bit for each.
-#[derive(Drop)]
+#[derive(Clone, Copy)]
 struct Round {
     place: u8,
     held: Opened,
@@ -88,7 +90,7 @@ struct Round {
 }
 
 // What one sequence's text comes to, and the line lists that its check came to test, a bit for each.
-#[derive(Drop)]
+#[derive(Clone, Copy)]
 struct Surveyed {
     found: Walked,
     tested: u64,
@@ -96,7 +98,7 @@ struct Surveyed {
 
 // What is known of one sequence, taken alone: what its text comes to, the reason of a fault, and the line lists that its check came to test, a bit
 // for each.
-#[derive(Drop)]
+#[derive(Clone, Copy)]
 pub struct Alone {
     pub found: Walked,
     pub reason: Reason,
@@ -104,14 +106,14 @@ pub struct Alone {
 }
 
 // A chain and how it ends.
-#[derive(Drop)]
+#[derive(Clone, Copy)]
 struct Checked {
     chain: Chain,
     ending: Ending,
 }
 
 // What the check answers.
-#[derive(Drop)]
+#[derive(Clone, Copy)]
 pub struct Report {
     pub ending: Ending,
     pub listed: [u8; memory::SEQUENCES],
@@ -122,7 +124,7 @@ pub struct Report {
 
 // What a check's pass comes to over the tables of a later time: there was no pass, and so the check ended; every byte that it rests on is as it
 // was; or the lowest address of one that is not.
-#[derive(Drop)]
+#[derive(Clone, Copy)]
 pub enum Standing {
     Unpassed(Ending),
     Same,
@@ -130,7 +132,7 @@ pub enum Standing {
 }
 
 // The sequences and the line lists that a pass rests on: a mark for each number that a byte can have.
-#[derive(Drop)]
+#[derive(Clone, Copy)]
 struct Rest {
     sequences: [bool; 256],
     lists: [bool; 256],

@@ -1,6 +1,8 @@
 // The table check at the desk: standard input is the two dumps put together, arguments are sequence numbers, none means all of them;
 // the argument `lists` asks for the test of every line list. A first argument `old` says that the tables are of the old kind. A first argument
 // `same`, or the first after `old`, asks whether a pass still stands: standard input is then the dumps of then and those of now.
+#![tactic(auto)]
+
 use libc::{STDIN_FILENO, STDOUT_FILENO};
 use line::Numeral;
 use memory::{Address, Format};

@@ -1,4 +1,6 @@
 // A packet by its own bytes: the command that it names, its length, the range that it asks for or writes.
+#![tactic(auto)]
+
 ghost use Rattle.std.specs.Prelude.{◌≡◌, drop};
 ghost use Rattle.octets.specs.Bytes.{triple_at};
 ghost use Rattle.octets.specs.Rows.{first_code};
@@ -11,7 +13,7 @@ use memory::{Address, Range};
 pub const LONGEST_PACKET: usize = 133;
 
 // The command that a packet's BC1 names: one of the table, one of another subsystem (5), or unknown (6).
-#[derive(Drop)]
+#[derive(Clone, Copy)]
 pub enum Telecommand {
     Status,
     Dump,

@@ -1,4 +1,6 @@
 // The unit: packets, answers, and its step.
+#![tactic(auto)]
+
 ghost use Rattle.std.specs.Prelude.{◌≤◌, ◌≡◌, true, ◌++◌, leb, length, drop};
 ghost use Rattle.octets.specs.Bytes.{counted};
 ghost use Rattle.octets.specs.Rows.{first_code, some};
@@ -15,7 +17,7 @@ use runner::{Event, OpenRaster, Runner, Stepped};
 use status::{Control, Ledger, Log, Watch};
 use telecommand::Telecommand;
 
-#[derive(Drop)]
+#[derive(Clone, Copy)]
 pub struct Unit {
     pub ledger: Ledger,
     pub control: Control,
@@ -24,7 +26,7 @@ pub struct Unit {
 }
 
 // What a packet is answered: the code, the size of what was written to the output, and the unit after it.
-#[derive(Drop)]
+#[derive(Clone, Copy)]
 pub struct Answer {
     pub code: u8,
     pub size: usize,
@@ -32,13 +34,13 @@ pub struct Answer {
 }
 
 // What a step of the unit comes to: refused with 16 or 17, or an event.
-#[derive(Drop)]
+#[derive(Clone, Copy)]
 pub enum Outcome {
     Denied(u8),
     Saw(Event),
 }
 
-#[derive(Drop)]
+#[derive(Clone, Copy)]
 pub struct UnitStep {
     pub outcome: Outcome,
     pub unit: Unit,
