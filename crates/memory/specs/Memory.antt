@@ -5,7 +5,6 @@ use Rattle.memory.specs.declared.Format.{Format}
 use Rattle.memory.specs.declared.Place.{Place}
 use Rattle.memory.specs.declared.Placed.{Placed}
 use Rattle.memory.specs.declared.Placed.TheVariants.{At, Outside}
-use Rattle.memory.specs.declared.Address.{Address}
 use Rattle.memory.specs.declared.Addressed.{Addressed}
 use Rattle.memory.specs.declared.Addressed.TheVariants.{Known, Nowhere}
 use Rattle.memory.specs.declared.Range.{Range}

@@ -37,6 +37,7 @@ use Rattle.promises.proofs.EachCheck.{check-sixteen, check-seven, rules-applied,
 
 -- ── one text, one verdict
 none-bears : (code : ℕ) (rs : List Row) → NoneHolds rs → FirstBears code rs → ⊥
+none-bears code [] _ b = elim b [ ]
 none-bears code (r ∷ rs) (h, hs) (inl (t, _)) = true≢false (sym t ∙ h)
 none-bears code (r ∷ rs) (h, hs) (inr (_, b)) = none-bears code rs hs b
 
@@ -48,7 +49,7 @@ module _ (E : Env) (text : List ℕ) where
   abbrev Stops : ℕ → Opened → Type 0
   Stops q o = is_closing (command_at text q) ≡ false → NoneHolds (rules_at E text q o) → ⊥
 
-  stop-same : {q q' p : ℕ} {o' o'' o : Opened} → UpTo E text q o' p o → UpTo E text q' o'' p o → Stops q o' → Stops q' o'' → (q ≡ q') × (o' ≡ o'')
+  stop-same : {q q' : ℕ} {o' : Opened} {p : ℕ} {o'' o : Opened} → UpTo E text q o' p o → UpTo E text q' o'' p o → Stops q o' → Stops q' o'' → (q ≡ q') × (o' ≡ o'')
   stop-same there there s s' = (refl, refl)
   stop-same there (next c n u) s s' = absurd (s c n)
   stop-same (next c n u) there s s' = absurd (s' c n)
@@ -90,7 +91,7 @@ module _ (F : Format) (lists seqs : List ℕ) where
       go (inl p) = absurd (not-both (env_of F lists) (entry_of F seqs n) f.code f.place p b)
       go (inr (c, q, h)) = let w : e ≡ Faults n (fault c q) (reason_of e) = fault-so h in ap fault_at w
 
-  alike : (before : List ℕ) {listed listed' xs ys : List ℕ} {n : ℕ} {e e' : Ending} → Chain F seqs lists listed n xs e → Chain F seqs lists listed' n ys e'
+  alike : {listed listed' : List ℕ} (before : List ℕ) {xs ys : List ℕ} {n : ℕ} {e e' : Ending} → Chain F seqs lists listed n xs e → Chain F seqs lists listed' n ys e'
       → listed ≡ before ++ xs → listed' ≡ before ++ ys → Differ listed → Differ listed' → Judged xs e → Judged ys e' → fault_at e ≡ fault_at e'
   alike before (last-terminates a) (last-terminates b) h h' d d' j j' = refl
   alike before (last-terminates a) (last-returns b l) h h' d d' j j' = refl
@@ -109,7 +110,7 @@ module _ (F : Format) (lists seqs : List ℕ) where
   alike before (then-called {n} {m} {names} a c) (last-returns b k) h h' d d' j j' =
       absurd (returns-short F seqs lists before names n m (subst₂ (λ (x : ℕ) (ns : List ℕ). among x ns ≡ true) (call_same b a) h' k) c (subst Differ h d))
   alike before (then-called {names} {ending} a c) (last-faulty {n} {fault} r) h h' d d' j j' = fault-alike n fault names ending (j'.broken fault.code n fault.place refl) j
-  alike before {listed'} (then-called {n} {names} {ending} a c) (then-called {names = names'} {ending = ending'} b c') h h' d d' j j' =
+  alike {listed'} before (then-called {n} {names} {ending} a c) (then-called {names = names'} {ending = ending'} b c') h h' d d' j j' =
       let on : (ns : List ℕ) → before ++ (n ∷ ns) ≡ (before ++ (n ∷ [])) ++ ns = λ ns. sym (append_assoc before (n ∷ []) ns) in
       alike (before ++ (n ∷ [])) c (subst (λ (x : ℕ). Chain F seqs lists listed' x names' ending') (call_same b a) c') (h ∙ on names) (h' ∙ on names') d d'
       (rest-judged n names ending j) (rest-judged n names' ending' j')

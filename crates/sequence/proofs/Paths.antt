@@ -1,6 +1,6 @@
 -- Laws of a raster's path. The shift goes one way, so that the first and the last repeat decide for all; and where a repeat does not stray, its
 -- start is a number that nothing was cut from. Assumes nothing.
-use Rattle.std.proofs.Common.{◌≡◌, ℕ, zero, suc, ◌+◌, ◌-◌, ◌*◌, ◌/◌, ◌<◌, ◌≤◌, Bool, true, false, cond, ◌||◌, eqb, ltb, ◌⊎◌, ℤ, pos, negsuc, ◌+ℤ◌, neg_ℤ, nat_abs, sym, refl, ap, ◌∙◌, subst, inl, inr, ⊎_elim, true≢false, mul-le-mul_left, le-div_iff_mul-le, zero-mul, div-mul-le_self, arith, ltb-false, ltb-true, le-ltb, lt-ltb, eqb-true}
+use Rattle.std.proofs.Common.{◌≡◌, ℕ, zero, suc, ◌+◌, ◌-◌, ◌*◌, ◌/◌, ◌<◌, ◌≤◌, Bool, true, false, ◌||◌, eqb, ltb, ◌⊎◌, ℤ, pos, negsuc, ◌+ℤ◌, neg_ℤ, nat_abs, sym, refl, ap, ◌∙◌, subst, inl, inr, ⊎_elim, true≢false, mul-le-mul_left, le-div_iff_mul-le, zero-mul, div-mul-le_self, arith, ltb-false, ltb-true, le-ltb, lt-ltb, eqb-true}
 use native.Mathlib.Nat.{div-zero}
 use mathlib.Core.Bool.{or-true}
 use borrow.Author.Tests.{eqb-false}

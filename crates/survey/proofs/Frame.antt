@@ -123,7 +123,7 @@ module _ (cards cards' : ℕ → ListCard) {text text' : List ℕ} (a : Alike te
       (λ e.
       let here = h p (start-here text f p e) in
       rw (judge-alike a cards' p o, same-judge cards cards' text p here o)
-      (walked_same _ _ p (walk_same f (p + size_at text p) (λ q s. h q (start-later text f p q e s))) o (judge cards text p o) (tells cards text p o)
+      (walked_same (λ q u. walk cards text f q u) (λ q u. walk cards' text' f q u) p (walk_same f (p + size_at text p) (λ q s. h q (start-later text f p q e s))) o (judge cards text p o) (tells cards text p o)
       (λ s. let (run, low, why) = seven cards text p o s in rw (raster-alike a p run) (here run low))))
 
   module _ (F : Format) (h : (k : ℕ) → k ≤ 47 → among k (lists_used text) ≡ true → cards' k ≡ cards k) where

@@ -22,10 +22,11 @@ use Rattle.runner.specs.declared.Act.TheVariants.{Refused, Opens, Exposes, Loops
 use Rattle.runner.specs.Judge.{judge}
 use Rattle.runner.proofs.Exactly.{RefusedFor, seven}
 use Rattle.survey.specs.declared.Item.{Item}
+use Rattle.survey.specs.declared.Item.TheVariants.{Pause}
 use Rattle.survey.specs.declared.Closing.TheVariants.{Terminates, CallsOn}
 use Rattle.survey.specs.declared.Reason.{Reason}
 use Rattle.survey.specs.declared.Reason.TheVariants.{None}
-use Rattle.survey.specs.Walk.{Finding, passes, faults, in_front, paused, closed, reason_for, walked, walk, rounds, checked_by, check_one}
+use Rattle.survey.specs.Walk.{Finding, passes, faults, in_front, paused, closed, scan, reason_for, walked, walk, rounds, checked_by, check_one}
 
 module _ (cards : ℕ → ListCard) (text : List ℕ) where
   -- the reason of a fault is the one defined for it, and a 7 is at a run raster whose line list is bad or misses a mark
@@ -47,12 +48,12 @@ module _ (cards : ℕ → ListCard) (text : List ℕ) where
   right-front i (faults f reason) r = r
 
   right-paused : (p : ℕ) (o : Opened) (found : Finding) → Right found → Right (paused text p o found)
-  right-paused p Shut found r = right-front _ found r
+  right-paused p Shut found r = right-front (Pause p) found r
   right-paused p (Open at c left) found r = r
 
   right-closed : (q t : ℕ) (o : Opened) (found : Finding) → Right found → Right (closed text q t o found)
   right-closed q t Shut found r = r
-  right-closed q t (Open at c left) found r = right-front _ found r
+  right-closed q t (Open at c left) found r = right-front (scan text at.0 t q) found r
 
   right-walked : (go : ℕ → Opened → Finding) → ((p : ℕ) (o : Opened) → Right (go p o)) → (p : ℕ) (o : Opened) (a : Act) → judge cards text p o ≡ a
       → Right (walked cards text go p o a)

@@ -127,7 +127,7 @@ module _ (F : Format) (seqs lists : List ℕ) where
   fault-short : (before rest : List ℕ) (n : ℕ) {m : ℕ} {listed' : List ℕ} {e : Ending} → Chain F seqs lists listed' m rest e → fault_at e ≡ suc n → Differ (before ++ (n ∷ rest)) → ⊥
   fault-short before rest n l y d = true≢false (sym (fault-among l y) ∙ (differ-part before (n ∷ rest) d).0)
 
-  pub same_names : (before : List ℕ) {listed listed' xs ys : List ℕ} {n : ℕ} {e e' : Ending} → Chain F seqs lists listed n xs e → Chain F seqs lists listed' n ys e'
+  pub same_names : {listed listed' : List ℕ} (before : List ℕ) {xs ys : List ℕ} {n : ℕ} {e e' : Ending} → Chain F seqs lists listed n xs e → Chain F seqs lists listed' n ys e'
       → listed ≡ before ++ xs → listed' ≡ before ++ ys → Differ listed → Differ listed' → fault_at e ≡ fault_at e' → (xs ≡ ys) × (IsPassed e → e ≡ e')
   same_names before (last-terminates a) (last-terminates b) h h' d d' y = (refl, λ p. refl)
   same_names before (last-terminates a) (last-returns b l) h h' d d' y = absurd (no_call a b)
@@ -146,14 +146,14 @@ module _ (F : Format) (seqs lists : List ℕ) where
   same_names before (then-called {n} {m} {names} a c) (last-returns b k) h h' d d' y =
       absurd (returns-short before names n m (subst₂ (λ (x : ℕ) (ns : List ℕ). among x ns ≡ true) (call_same b a) h' k) c (subst Differ h d))
   same_names before (then-called {names} a c) (last-faulty {n} r) h h' d d' y = absurd (fault-short before names n c y (subst Differ h d))
-  same_names before {listed'} (then-called {n} {names} a c) (then-called {names = names'} {ending = ending'} b c') h h' d d' y =
+  same_names {listed'} before (then-called {n} {names} a c) (then-called {names = names'} {ending = ending'} b c') h h' d d' y =
       let on : (ns : List ℕ) → before ++ (n ∷ ns) ≡ (before ++ (n ∷ [])) ++ ns = λ ns. sym (append_assoc before (n ∷ []) ns) in
       let (same, ends) = same_names (before ++ (n ∷ [])) c (subst (λ (x : ℕ). Chain F seqs lists listed' x names' ending') (call_same b a) c') (h ∙ on names) (h' ∙ on names') d d' y in
       (ap (λ (ns : List ℕ). n ∷ ns) same, ends)
 
   -- ── a chain that returns
   -- the last one calls a listed one
-  pub chain_back : (d : ℕ) {listed names : List ℕ} {n : ℕ} → Chain F seqs lists listed n names Returns → (m : ℕ) × Calling F seqs (last_of d names) m × (among m listed ≡ true)
+  pub chain_back : {listed : List ℕ} (d : ℕ) {names : List ℕ} {n : ℕ} → Chain F seqs lists listed n names Returns → (m : ℕ) × Calling F seqs (last_of d names) m × (among m listed ≡ true)
   chain_back d (last-returns {m} a l) = (m, a, l)
   chain_back d (then-called {n} a c) = chain_back n c
 
@@ -167,7 +167,7 @@ module _ (F : Format) (seqs lists : List ℕ) where
   part-from (x ∷ once) again m (then-called {n} {names} a c) e = part-from once again m c (cc)
 
   -- what it calls at last is among others
-  relisted : (d : ℕ) {listed listed' names : List ℕ} {n m : ℕ} → Chain F seqs lists listed n names Returns → Calling F seqs (last_of d names) m → among m listed' ≡ true
+  relisted : {listed listed' : List ℕ} (d : ℕ) {names : List ℕ} {n m : ℕ} → Chain F seqs lists listed n names Returns → Calling F seqs (last_of d names) m → among m listed' ≡ true
       → Chain F seqs lists listed' n names Returns
   relisted d (last-returns a l) b k = last-returns b k
   relisted d (then-called {n} a c) b k = then-called a (relisted n c b k)

@@ -35,6 +35,7 @@ use Rattle.promises.proofs.Text.TextOrder.{command_of}
 -- ── the rule on a call above 127 comes last
 module _ (E : Env) (text : List ℕ) (p : ℕ) where
   bears-more : (code : ℕ) (rs more : List Row) → FirstBears code rs → FirstBears code (rs ++ more)
+  bears-more code [] more b = elim b [ ]
   bears-more code (r ∷ rs) more (inl b) = inl b
   bears-more code (r ∷ rs) more (inr (h, b)) = inr (h, bears-more code rs more b)
 
