@@ -3,14 +3,13 @@
 use Prim.Native.Nat.{ℕ, ◌≤◌}
 use native.Mathlib.Omega.{arith}
 use mathlib.Core.Path.{◌≡◌, refl, sym, ap, ◌∙◌}
-use mathlib.Core.Bool.{Bool, true, false, cond, ◌&&◌, false≢true}
+use mathlib.Core.Bool.{Bool, true, false, cond, false≢true}
 use mathlib.Core.List.{List, ◌++◌}
 use mathlib.Core.Logic.{◌⊎◌, inl, inr, ⊎_elim}
 use lib.Dec.{ltb, eqb}
-use borrow.Author.Tests.{ltb-false, eqb-true, eq-eqb, ne_eqb}
+use borrow.Author.Tests.{ltb-false, eqb-true}
 use Rattle.octets.specs.Rows.{first_code}
-use Rattle.octets.proofs.Laws.{none-holds}
-use Rattle.octets.proofs.Bools.{and_both, by-test, choice}
+use Rattle.octets.proofs.Bools.{and_both, choice}
 use Rattle.sequence.specs.declared.Command.{Command}
 use Rattle.sequence.specs.declared.Command.TheVariants.{RunRaster, Expose, LoopBack, CallSequence, Terminate, Delay, Nothing, Unknown, Unfit}
 use Rattle.sequence.specs.declared.ListCard.{ListCard}
@@ -23,7 +22,6 @@ use Rattle.runner.specs.declared.Opened.TheVariants.{Shut, Open}
 use Rattle.runner.specs.declared.Act.{Act}
 use Rattle.runner.specs.declared.Act.TheVariants.{Refused, Opens, Exposes, Loops, Waits, Calls, Ends}
 use Rattle.runner.specs.Judge.{open_elsewhere, repeat_begun, path_rows, flag_rows, raster_rows, run_rows, expose_rows, loop_rows, close_rows, tests_list, unless, exposes_in, judged, judge}
-use Rattle.runner.proofs.Exactly.{seven}
 
 -- ── the rows before the test of the line list, and a code after them
 abbrev early : Bool → Bool → Bool → Bool → Bool → Bool → ℕ → ℕ
