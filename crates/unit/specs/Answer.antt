@@ -1,5 +1,5 @@
 -- What a packet is answered, and what it leaves in the unit, the tables and the output.
-use Rattle.std.specs.Prelude.{ℕ, ◌+◌, true, cond, List, [], ◌++◌, leb, eqb, length, drop}
+use Rattle.std.specs.Prelude.{ℕ, true, cond, List, [], ◌++◌, leb, eqb, length, drop}
 use Rattle.octets.specs.Bytes.{byte_at, triple_at, counted}
 use Rattle.memory.specs.declared.Format.{Format}
 use Rattle.memory.specs.Memory.{part_of, seqs_written, lists_written}
