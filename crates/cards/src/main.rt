@@ -1,9 +1,13 @@
 // The summary at the desk: standard input is the two dumps put together, and a line is shown for each card. A first argument `old` says that the
-// tables are of the old kind.
+// tables are of the old kind. A read or a write that fails ends it with that error.
 #![tactic(auto)]
 
-use libc::{STDIN_FILENO, STDOUT_FILENO};
+ghost use Rattle.std.specs.Prelude.{◌≤◌, length, IfOk};
+
 use memory::Format;
+use std::io;
+use std::io::Read;
+use std::rt::Env;
 
 // The two dumps put together, and the bytes of a summary, of the old kind's too.
 const TABLES: usize = memory::SEQUENCE_TABLE + memory::LINE_LIST_TABLE;
@@ -11,6 +15,9 @@ const TABLES: usize = memory::SEQUENCE_TABLE + memory::LINE_LIST_TABLE;
 const SUMMARY: usize = 128 * summary::CARD + summary::LINES;
 
 const OLD_SUMMARY: usize = 64 * summary::CARD + summary::LINES;
+
+// The longest argument that is looked at.
+const WORD: usize = 65536;
 
 // How a sequence ends, as its card has it: at its fault's place, with its code; at its end; or with a call, and of which sequence.
 fn put_ending(text: &mut [u8], at: usize, card: &[u8]) -> usize {
@@ -71,15 +78,13 @@ fn put_list(text: &mut [u8], at: usize, k: usize, card: &[u8]) -> usize {
 // Every sequence's card in order, by the last one's number.
 fn put_cards(text: &mut [u8], at: usize, last: u8, cards: &[u8]) -> usize {
     let mut p = at;
-    let mut n: usize = 0;
-    while n <= last as usize {
+    for n in 0..=last as usize {
         p = put_card(
             text,
             p,
             n,
             octets::part(cards, n * summary::CARD, summary::CARD),
         );
-        n += 1;
     }
     p
 }
@@ -87,21 +92,25 @@ fn put_cards(text: &mut [u8], at: usize, last: u8, cards: &[u8]) -> usize {
 // Every line list's card in order.
 fn put_lists(text: &mut [u8], at: usize, cards: &[u8]) -> usize {
     let mut p = at;
-    let mut k: usize = 0;
-    while k < memory::LINE_LISTS {
+    for k in 0..memory::LINE_LISTS {
         p = put_list(
             text,
             p,
             k,
             octets::part(cards, k * sequence::CARD, sequence::CARD),
         );
-        k += 1;
     }
     p
 }
 
 // The summary of two dumps, in the room lent for it, a line for each card.
-fn show(kind: u32, tables: &[u8], cards: &mut [u8], text: &mut [u8]) {
+fn show(
+    rt: &impl Print,
+    kind: u32,
+    tables: &[u8],
+    cards: &mut [u8],
+    text: &mut [u8],
+) -> io::Result<()> {
     let format = Format::of(kind);
     let lines = summary::lines_at(format);
     summary::make(
@@ -112,30 +121,56 @@ fn show(kind: u32, tables: &[u8], cards: &mut [u8], text: &mut [u8]) {
     );
     let p = put_cards(text, 0, format.last, cards);
     let end = put_lists(text, p, octets::part(cards, lines, summary::LINES));
-    io::write_all(STDOUT_FILENO, octets::part(text, 0, end));
+    rt.write_all(octets::part(text, 0, end))
+}
+
+// Reads until a buffer is full or the input ends, and answers how many bytes it has put at the buffer's start.
+fn read_full(input: &mut impl Read, buf: &mut [u8]) -> io::Result<usize>
+    ensures { IfOk result (λ n. n ≤ length buf.old) }
+{
+    let mut done = 0;
+    while done < buf.len() {
+        let n = input.read(&mut buf[done..])?;
+        if n == 0 {
+            return Ok(done);
+        }
+        done += n;
+    }
+    Ok(done)
+}
+
+// Puts an argument at a buffer's start and answers its length: 0 where there is none, or it is longer than the buffer.
+fn arg(rt: &impl Env, i: usize, buf: &mut [u8]) -> usize {
+    rt.arg(i, buf).unwrap_or(0)
 }
 
 // The summary of what was read, or that it is not the tables wanted.
-fn run(tables: &mut [u8], word: &mut [u8], text: &mut [u8]) {
-    let n = io::read_full(STDIN_FILENO, tables);
+fn run(
+    rt: &(impl Print + Env),
+    input: &mut impl Read,
+    tables: &mut [u8],
+    word: &mut [u8],
+    text: &mut [u8],
+) -> io::Result<()> {
+    let n = read_full(input, tables)?;
     if n != TABLES {
-        io::write_all(STDOUT_FILENO, b"REFUSED TABLES 16\n");
-        return;
+        return rt.write_all(b"REFUSED TABLES 16\n");
     }
-    let letters = os::arg(1, word);
+    let letters = arg(rt, 1, word);
     let kind = line::kind_named(octets::part(word, 0, letters));
     if kind == memory::FLIGHT {
         let mut cards = [0u8; SUMMARY];
-        show(kind, tables, &mut cards, text);
+        show(rt, kind, tables, &mut cards, text)
     } else {
         let mut cards = [0u8; OLD_SUMMARY];
-        show(kind, tables, &mut cards, text);
+        show(rt, kind, tables, &mut cards, text)
     }
 }
 
-fn main() {
+fn main(rt: HostRuntime) -> io::Result<()> {
     let mut tables = [0u8; TABLES + 1];
-    let mut word = io::large_buffer();
+    let mut word = [0u8; WORD];
     let mut text = [0u8; 32768];
-    run(&mut tables, &mut word, &mut text);
+    let mut input = rt.stdin();
+    run(&rt, &mut input, &mut tables, &mut word, &mut text)
 }

@@ -1,12 +1,18 @@
 // The desk: packets and steps from standard input, answers and events to standard output; `desk old` for a unit of the old kind. Text waits
 // to be written until a piece of input is worked off, or until it has no room left; so a person sees each answer before the next read.
+// A read or a write that fails ends it with that error.
 #![tactic(auto)]
 
-ghost use Rattle.std.specs.Prelude.{◌<◌, ◌≤◌, length};
+ghost use Rattle.std.specs.Prelude.{◌<◌, ◌≤◌, length, IfOk};
 
-use libc::{STDIN_FILENO, STDOUT_FILENO};
 use line::Line;
+use std::io;
+use std::io::Read;
+use std::rt::Env;
 use unit::{Outcome, Unit};
+
+// The bytes of a piece of input, and those of text that can wait.
+const PIECE: usize = 65536;
 
 // More text than one packet is answered with: its TC line and the DU line of 16,384 bytes.
 const ANSWER: usize = 33000;
@@ -34,19 +40,19 @@ struct Piece {
 }
 
 // Writes out the text that waits; the next goes to the start.
-fn write_out(text: &[u8], at: usize) -> usize {
-    io::write_all(STDOUT_FILENO, octets::part(text, 0, at));
-    0
+fn write_out(rt: &impl Print, text: &[u8], at: usize) -> io::Result<usize> {
+    rt.write_all(octets::part(text, 0, at))?;
+    Ok(0)
 }
 
 // Where the next text goes, with room for n bytes: what waits is written out where there is less.
-fn room(text: &[u8], at: usize, n: usize) -> usize {
+fn room(rt: &impl Print, text: &[u8], at: usize, n: usize) -> io::Result<usize> {
     if at <= text.len() {
         if n <= text.len() - at {
-            return at;
+            return Ok(at);
         }
     }
-    write_out(text, at)
+    write_out(rt, text, at)
 }
 
 // The bytes that answer a packet, where there are any: a status block or a dump.
@@ -59,6 +65,7 @@ fn put_reply(text: &mut [u8], at: usize, bc1: u8, reply: &[u8]) -> usize {
 
 // A packet of n bytes obeyed or refused, and its answer shown.
 fn take_packet(
+    rt: &impl Print,
     desk: Desk,
     seqs: &mut [u8],
     lists: &mut [u8],
@@ -66,61 +73,74 @@ fn take_packet(
     typed: &[u8; 140],
     n: usize,
     text: &mut [u8],
-) -> Desk {
+) -> io::Result<Desk> {
     let packet = octets::part(typed, 0, n);
     let answer = desk.unit.packet(desk.kind, seqs, lists, out, 0, packet);
     let bc1 = octets::byte(packet, 0);
-    let from = room(text, desk.at, ANSWER);
+    let from = room(rt, text, desk.at, ANSWER)?;
     let after = line::put_answer(text, from, bc1, answer.code);
     let at = put_reply(text, after, bc1, octets::part(out, 0, answer.size));
     let unit = answer.unit;
-    Desk { unit, at, ..desk }
+    Ok(Desk { unit, at, ..desk })
 }
 
 // One step, and its event shown. The desk's tables and state are never refused.
-fn take_step(desk: Desk, seqs: &[u8], lists: &[u8], text: &mut [u8]) -> Desk {
+fn take_step(
+    rt: &impl Print,
+    desk: Desk,
+    seqs: &[u8],
+    lists: &[u8],
+    text: &mut [u8],
+) -> io::Result<Desk> {
     let step = desk.unit.step(desk.kind, seqs, lists);
     let unit = step.unit;
     let outcome = step.outcome;
-    let from = room(text, desk.at, EVENT);
+    let from = room(rt, text, desk.at, EVENT)?;
     let at = match outcome {
         Outcome::Denied(_) => from,
         Outcome::Saw(event) => line::put_event(text, from, event, unit.watch.exposures),
     };
-    Desk { unit, at, ..desk }
+    Ok(Desk { unit, at, ..desk })
 }
 
 // So many steps.
-fn take_steps(start: Desk, seqs: &[u8], lists: &[u8], n: u16, text: &mut [u8]) -> Desk {
+fn take_steps(
+    rt: &impl Print,
+    start: Desk,
+    seqs: &[u8],
+    lists: &[u8],
+    n: u16,
+    text: &mut [u8],
+) -> io::Result<Desk> {
     let mut desk = start;
-    let mut left = n;
-    while 0 < left {
-        desk = take_step(desk, seqs, lists, text);
-        left -= 1;
+    for _ in 0..n {
+        desk = take_step(rt, desk, seqs, lists, text)?;
     }
-    desk
+    Ok(desk)
 }
 
 // A line that is no packet and no STEP.
-fn take_bad(desk: Desk, text: &mut [u8]) -> Desk {
-    let at = line::put_bad(text, room(text, desk.at, EVENT));
-    Desk { at, ..desk }
+fn take_bad(rt: &impl Print, desk: Desk, text: &mut [u8]) -> io::Result<Desk> {
+    let from = room(rt, text, desk.at, EVENT)?;
+    let at = line::put_bad(text, from);
+    Ok(Desk { at, ..desk })
 }
 
 // A line: a packet, steps, or BAD, which reaches the unit in no way.
 fn take_line(
+    rt: &impl Print,
     desk: Desk,
     seqs: &mut [u8],
     lists: &mut [u8],
     out: &mut [u8],
     typed: &[u8],
     text: &mut [u8],
-) -> Desk {
+) -> io::Result<Desk> {
     let mut packet = [0u8; 140];
     match line::read_line(typed, &mut packet) {
-        Line::Packet(n) => take_packet(desk, seqs, lists, out, &packet, n, text),
-        Line::Steps(n) => take_steps(desk, seqs, lists, n, text),
-        Line::Bad => take_bad(desk, text),
+        Line::Packet(n) => take_packet(rt, desk, seqs, lists, out, &packet, n, text),
+        Line::Steps(n) => take_steps(rt, desk, seqs, lists, n, text),
+        Line::Bad => take_bad(rt, desk, text),
     }
 }
 
@@ -137,41 +157,57 @@ fn whole(piece: &[u8], count: usize) -> usize {
     0
 }
 
+// The place of the first newline from a place on, or where the bytes end if there is none.
+fn line_end(typed: &[u8], from: usize) -> usize
+    requires { from ≤ length typed.now }
+    ensures low { from ≤ result }
+    ensures high { result ≤ length typed.now }
+{
+    for end in from..typed.len() {
+        if typed[end] == b'\n' {
+            return end;
+        }
+    }
+    typed.len()
+}
+
 // All lines of what was typed, and their answers shown.
 fn take_lines(
+    rt: &impl Print,
     start: Desk,
     seqs: &mut [u8],
     lists: &mut [u8],
     out: &mut [u8],
     typed: &[u8],
     text: &mut [u8],
-) -> Desk {
+) -> io::Result<Desk> {
     let mut desk = start;
     let mut from = 0;
     while from < typed.len() {
-        let end = bytes::scan::find(typed, from, typed.len(), b'\n');
+        let end = line_end(typed, from);
         let next = end + 1;
         let part = octets::part(typed, from, end - from);
-        desk = take_line(desk, seqs, lists, out, part, text);
+        desk = take_line(rt, desk, seqs, lists, out, part, text)?;
         from = next;
     }
-    desk.at = write_out(text, desk.at);
-    desk
+    desk.at = write_out(rt, text, desk.at)?;
+    Ok(desk)
 }
 
 // Reads a piece of input: so many bytes, none where it has ended.
-fn read_some(piece: &mut [u8]) -> usize
-    ensures { result ≤ length piece.old }
+fn read_some(input: &mut impl Read, piece: &mut [u8]) -> io::Result<usize>
+    ensures { IfOk result (λ n. n ≤ length piece.old) }
 {
-    io::count(libc::read(STDIN_FILENO, piece), piece)
+    input.read(piece)
 }
 
 // Reads on behind what is kept, and answers where the bytes end.
-fn read_behind(piece: &mut [u8], kept: usize) -> usize {
+fn read_behind(input: &mut impl Read, piece: &mut [u8], kept: usize) -> io::Result<usize> {
     if piece.len() < kept {
-        return kept;
+        return Ok(kept);
     }
-    kept + read_some(&mut piece[kept..])
+    let more = read_some(input, &mut piece[kept..])?;
+    Ok(kept + more)
 }
 
 // Keeps the line that is not whole yet: moves it to the front. No more of it is kept than makes it too long, so that it is BAD
@@ -186,27 +222,27 @@ fn keep(piece: &mut [u8], last: Piece) -> usize {
 }
 
 // The next piece of input, behind what is kept of the last one. Where the input has ended a newline closes the line that is kept.
-fn next_piece(piece: &mut [u8], last: Piece) -> Piece {
+fn next_piece(input: &mut impl Read, piece: &mut [u8], last: Piece) -> io::Result<Piece> {
     let kept = keep(piece, last);
-    let count = read_behind(piece, kept);
+    let count = read_behind(input, piece, kept)?;
     if count != kept {
         let whole = whole(piece, count);
-        return Piece {
+        return Ok(Piece {
             count,
             whole,
             more: true,
-        };
+        });
     }
     let end = if kept == 0 {
         0
     } else {
         line::put(piece, kept, b'\n')
     };
-    Piece {
+    Ok(Piece {
         count: end,
         whole: end,
         more: false,
-    }
+    })
 }
 
 // The turns left after one: none where the input has ended.
@@ -219,13 +255,15 @@ fn turns_left(more: bool, turns: u64) -> u64
 
 // Every piece of input. A proved loop has to end, so the turns are counted down from a number that no input uses up.
 fn run(
+    rt: &impl Print,
+    input: &mut impl Read,
     kind: u32,
     seqs: &mut [u8],
     lists: &mut [u8],
     out: &mut [u8],
     piece: &mut [u8],
     text: &mut [u8],
-) {
+) -> io::Result<()> {
     let unit = Unit::power_on();
     let mut desk = Desk { kind, unit, at: 0 };
     let mut held = Piece {
@@ -235,20 +273,29 @@ fn run(
     };
     let mut turns = u64::MAX;
     while 0 < turns {
-        held = next_piece(piece, held);
+        held = next_piece(input, piece, held)?;
         let typed = octets::part(piece, 0, held.whole);
-        desk = take_lines(desk, seqs, lists, out, typed, text);
+        desk = take_lines(rt, desk, seqs, lists, out, typed, text)?;
         turns = turns_left(held.more, turns);
     }
+    Ok(())
 }
 
-fn main() {
+// Puts an argument at a buffer's start and answers its length: 0 where there is none, or it is longer than the buffer.
+fn arg(rt: &impl Env, i: usize, buf: &mut [u8]) -> usize {
+    rt.arg(i, buf).unwrap_or(0)
+}
+
+fn main(rt: HostRuntime) -> io::Result<()> {
     let mut seqs = [0u8; Unit::SEQUENCE_TABLE];
     let mut lists = [0u8; Unit::LINE_LIST_TABLE];
     let mut out = [0u8; Unit::SEQUENCE_TABLE];
-    let mut piece = io::large_buffer();
-    let mut text = io::large_buffer();
-    let end = os::arg(1, &mut piece);
+    let mut piece = [0u8; PIECE];
+    let mut text = [0u8; PIECE];
+    let end = arg(&rt, 1, &mut piece);
     let kind = line::kind_named(octets::part(&piece, 0, end));
-    run(kind, &mut seqs, &mut lists, &mut out, &mut piece, &mut text);
+    let mut input = rt.stdin();
+    run(
+        &rt, &mut input, kind, &mut seqs, &mut lists, &mut out, &mut piece, &mut text,
+    )
 }

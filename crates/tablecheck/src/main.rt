@@ -1,12 +1,18 @@
 // The table check at the desk: standard input is the two dumps put together, arguments are sequence numbers, none means all of them;
 // the argument `lists` asks for the test of every line list. A first argument `old` says that the tables are of the old kind. A first argument
 // `same`, or the first after `old`, asks whether a pass still stands: standard input is then the dumps of then and those of now.
+// A read or a write that fails ends it with that error.
 #![tactic(auto)]
 
-use libc::{STDIN_FILENO, STDOUT_FILENO};
+ghost use Rattle.std.specs.Prelude.{◌≤◌, length, IfOk};
+
 use line::Numeral;
 use memory::{Address, Format};
 use sequence::Fault;
+use std::env::FillError;
+use std::io;
+use std::io::Read;
+use std::rt::Env;
 use survey::{Ending, Reason, Report, Standing};
 
 // The two dumps put together.
@@ -15,9 +21,12 @@ const TABLES: usize = memory::SEQUENCE_TABLE + memory::LINE_LIST_TABLE;
 // Lines are shown once they have so many bytes. Behind these the text has room for a line with any argument.
 const MANY: usize = 4096;
 
+// The longest argument that is looked at.
+const WORD: usize = 65536;
+
 // What the arguments ask for before they name sequences: the kind of the tables, whether passes are to be held against later tables, and the
 // first argument that names one.
-#[derive(Drop)]
+#[derive(Clone, Copy)]
 struct Asked {
     kind: u32,
     same: bool,
@@ -183,15 +192,13 @@ fn put_standing(text: &mut [u8], at: usize, kind: u32, tables: &[u8], word: &[u8
 // Every line list in order.
 fn put_lists(text: &mut [u8], at: usize, lists: &[u8]) -> usize {
     let mut end = at;
-    let mut n: u8 = 0;
-    while n <= memory::LAST_LINE_LIST {
+    for n in 0..=memory::LAST_LINE_LIST {
         end = put_list(
             text,
             end,
             n,
             sequence::list_card(memory::list(lists, n), true).bytes(),
         );
-        n += 1;
     }
     end
 }
@@ -209,48 +216,72 @@ fn put_asked(text: &mut [u8], at: usize, asked: Asked, tables: &[u8], word: &[u8
 }
 
 // Where the next line is put: behind the lines so far, or, where these are many, at the start once they are shown.
-fn next_line(text: &[u8], end: usize) -> usize {
+fn next_line(rt: &impl Print, text: &[u8], end: usize) -> io::Result<usize> {
     if end < MANY {
-        return end;
+        return Ok(end);
     }
-    io::write_all(STDOUT_FILENO, octets::part(text, 0, end));
-    0
+    rt.write_all(octets::part(text, 0, end))?;
+    Ok(0)
 }
 
 // Every sequence in order, shown.
-fn show_all(asked: Asked, tables: &[u8], word: &mut [u8], text: &mut [u8]) {
+fn show_all(
+    rt: &impl Print,
+    asked: Asked,
+    tables: &[u8],
+    word: &mut [u8],
+    text: &mut [u8],
+) -> io::Result<()> {
     let last = Format::of(asked.kind).last as u64;
     let mut end = 0;
-    let mut n: u64 = 0;
-    while n <= last {
+    for n in 0..=last {
         let digits = line::put_number(word, 0, n);
-        let at = next_line(text, end);
+        let at = next_line(rt, text, end)?;
         end = put_asked(text, at, asked, tables, octets::part(word, 0, digits));
-        n += 1;
     }
-    io::write_all(STDOUT_FILENO, octets::part(text, 0, end));
+    rt.write_all(octets::part(text, 0, end))
+}
+
+// How many arguments the program was started with, its own name among them. None is put anywhere: a longer one than the empty buffer is there
+// all the same.
+fn arg_count(rt: &impl Env) -> usize {
+    for i in 0..usize::MAX {
+        if let Err(FillError::NotPresent) = rt.arg(i, &mut []) {
+            return i;
+        }
+    }
+    usize::MAX
+}
+
+// Puts an argument at a buffer's start and answers its length: 0 where there is none, or it is longer than the buffer.
+fn arg(rt: &impl Env, i: usize, buf: &mut [u8]) -> usize {
+    rt.arg(i, buf).unwrap_or(0)
 }
 
 // What the arguments that name sequences ask for, each in its turn, shown.
-fn show_named(asked: Asked, tables: &[u8], word: &mut [u8], text: &mut [u8]) {
-    let count = os::arg_count();
+fn show_named(
+    rt: &(impl Print + Env),
+    asked: Asked,
+    tables: &[u8],
+    word: &mut [u8],
+    text: &mut [u8],
+) -> io::Result<()> {
+    let count = arg_count(rt);
     let mut end = 0;
-    let mut i = asked.first;
-    while i < count {
-        let letters = os::arg(i, word);
-        let at = next_line(text, end);
+    for i in asked.first..count {
+        let letters = arg(rt, i, word);
+        let at = next_line(rt, text, end)?;
         end = put_asked(text, at, asked, tables, octets::part(word, 0, letters));
-        i += 1;
     }
-    io::write_all(STDOUT_FILENO, octets::part(text, 0, end));
+    rt.write_all(octets::part(text, 0, end))
 }
 
 // What the arguments before those that name sequences ask for.
-fn read_words(word: &mut [u8]) -> Asked {
-    let end = os::arg(1, word);
+fn read_words(rt: &impl Env, word: &mut [u8]) -> Asked {
+    let end = arg(rt, 1, word);
     let kind = line::kind_named(octets::part(word, 0, end));
     let first = if kind == memory::FLIGHT { 1 } else { 2 };
-    let end = os::arg(first, word);
+    let end = arg(rt, first, word);
     let same = line::is_word(octets::part(word, 0, end), b"same");
     if !same {
         return Asked { kind, same, first };
@@ -259,25 +290,46 @@ fn read_words(word: &mut [u8]) -> Asked {
     Asked { kind, same, first }
 }
 
+// Reads until a buffer is full or the input ends, and answers how many bytes it has put at the buffer's start.
+fn read_full(input: &mut impl Read, buf: &mut [u8]) -> io::Result<usize>
+    ensures { IfOk result (λ n. n ≤ length buf.old) }
+{
+    let mut done = 0;
+    while done < buf.len() {
+        let n = input.read(&mut buf[done..])?;
+        if n == 0 {
+            return Ok(done);
+        }
+        done += n;
+    }
+    Ok(done)
+}
+
 // What is asked for, or that the input is not the tables wanted.
-fn run(tables: &mut [u8], word: &mut [u8], text: &mut [u8]) {
-    let n = io::read_full(STDIN_FILENO, tables);
-    let asked = read_words(word);
+fn run(
+    rt: &(impl Print + Env),
+    input: &mut impl Read,
+    tables: &mut [u8],
+    word: &mut [u8],
+    text: &mut [u8],
+) -> io::Result<()> {
+    let n = read_full(input, tables)?;
+    let asked = read_words(rt, word);
     let wanted = if asked.same { 2 * TABLES } else { TABLES };
     if n != wanted {
-        io::write_all(STDOUT_FILENO, b"REFUSED TABLES 16\n");
-        return;
+        return rt.write_all(b"REFUSED TABLES 16\n");
     }
-    if os::arg_count() <= asked.first {
-        show_all(asked, tables, word, text);
+    if arg_count(rt) <= asked.first {
+        show_all(rt, asked, tables, word, text)
     } else {
-        show_named(asked, tables, word, text);
+        show_named(rt, asked, tables, word, text)
     }
 }
 
-fn main() {
+fn main(rt: HostRuntime) -> io::Result<()> {
     let mut tables = [0u8; 2 * TABLES + 1];
-    let mut word = io::large_buffer();
+    let mut word = [0u8; WORD];
     let mut text = [0u8; 70000];
-    run(&mut tables, &mut word, &mut text);
+    let mut input = rt.stdin();
+    run(&rt, &mut input, &mut tables, &mut word, &mut text)
 }
