@@ -1,4 +1,5 @@
-// The library for C: the unit and the table check as functions on numbers and byte slices. include/keel.h declares them.
+// The library for C: the unit and the table check as functions on numbers and byte slices. `keel_c` exports them, and include/keel.h
+// declares them.
 #![tactic(auto)]
 
 ghost use Rattle.std.specs.Prelude.{◌≡◌, ◌+◌, ◌*◌, ◌≤◌, ◌^◌, length};
@@ -35,8 +36,7 @@ fn held_code(lent: bool, state: &[u8]) -> u8
 }
 
 // The state at power-on: mode 1, selection, status sequence and open raster none, all else 0.
-#[unsafe(no_mangle)]
-pub extern "C" fn keel_power_on(state: &mut [u8]) -> u32
+pub fn keel_power_on(state: &mut [u8]) -> u32
     ensures value { result ≡ power_code state.old }
     ensures state_after { state.new ≡ powered_on state.old }
 {
@@ -61,8 +61,7 @@ fn answer_of(code: u8, size: usize) -> u32
 }
 
 // One packet: the code, and 256 times the length of what was written to the output.
-#[unsafe(no_mangle)]
-pub extern "C" fn keel_packet(
+pub fn keel_packet(
     kind: u32,
     state: &mut [u8],
     seqs: &mut [u8],
@@ -124,8 +123,7 @@ fn denied(code: u8) -> u64
 }
 
 // One step: the event in the low 8 bits, its values in 16 bits each at bits 16, 32 and 48.
-#[unsafe(no_mangle)]
-pub extern "C" fn keel_step(kind: u32, state: &mut [u8], seqs: &[u8], lists: &[u8]) -> u64
+pub fn keel_step(kind: u32, state: &mut [u8], seqs: &[u8], lists: &[u8]) -> u64
     ensures value { result ≡ step_answer (format_of kind) state.old seqs.now lists.now }
     ensures state_after { state.new ≡ state_stepped (format_of kind) state.old seqs.now lists.now }
 {
@@ -235,8 +233,7 @@ fn tell(found: Report, report: &mut [u8]) -> u8
 }
 
 // The table check of a sequence: its code, and its report of 152 bytes.
-#[unsafe(no_mangle)]
-pub extern "C" fn keel_check(
+pub fn keel_check(
     kind: u32,
     seqs: &[u8],
     lists: &[u8],
@@ -253,8 +250,7 @@ pub extern "C" fn keel_check(
 }
 
 // The summary of both tables, made whole: 0, or 16 with nothing written.
-#[unsafe(no_mangle)]
-pub extern "C" fn keel_cards(kind: u32, seqs: &[u8], lists: &[u8], summary: &mut [u8]) -> u32
+pub fn keel_cards(kind: u32, seqs: &[u8], lists: &[u8], summary: &mut [u8]) -> u32
     ensures value { result ≡ make_code (format_of kind) seqs.now lists.now summary.old }
     ensures summary_after { summary.new ≡ made (format_of kind) seqs.now lists.now summary.old }
 {
@@ -262,8 +258,7 @@ pub extern "C" fn keel_cards(kind: u32, seqs: &[u8], lists: &[u8], summary: &mut
 }
 
 // The summary brought up to date after an obeyed uplink of so many bytes at an address: 0, or 16 or 7 with nothing written.
-#[unsafe(no_mangle)]
-pub extern "C" fn keel_cards_update(
+pub fn keel_cards_update(
     kind: u32,
     seqs: &[u8],
     lists: &[u8],
@@ -278,8 +273,7 @@ pub extern "C" fn keel_cards_update(
 }
 
 // The table check of a sequence from a summary alone: its code, and its report of 152 bytes.
-#[unsafe(no_mangle)]
-pub extern "C" fn keel_cards_check(kind: u32, summary: &[u8], number: u32, report: &mut [u8]) -> u32
+pub fn keel_cards_check(kind: u32, summary: &[u8], number: u32, report: &mut [u8]) -> u32
     ensures value { result ≡ cards_answer (format_of kind) summary.now number report.old }
     ensures report_after { report.new ≡ cards_report (format_of kind) summary.now number report.old }
 {
