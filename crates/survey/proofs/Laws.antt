@@ -438,10 +438,10 @@ low-walked last l (faults f reason) w = tt
 
 module _ (E : Env) where
   walked-rounds : (q : ℕ) (found : Finding) → walked_of (rounds E.format q found) ≡ all_rounds E.format q (walked_of found)
-  walked-rounds q (passes k x is p Terminates) = refl
-  walked-rounds q (passes k x is p (CallsOn m)) = by (ltb E.format.last m)
+  walked-rounds q (passes k x its p Terminates) = refl
+  walked-rounds q (passes k x its p (CallsOn m)) = by (ltb E.format.last m)
     where
-      by : (t : Bool) → walked_of (cond t (faults (fault 4 p) None) (passes (1 + q * k) (q * x) is p (CallsOn m))) ≡ cond t (Faulty (fault 4 p)) (Closed p (CallsOn m) (1 + q * k) (q * x))
+      by : (t : Bool) → walked_of (cond t (faults (fault 4 p) None) (passes (1 + q * k) (q * x) its p (CallsOn m))) ≡ cond t (Faulty (fault 4 p)) (Closed p (CallsOn m) (1 + q * k) (q * x))
       by true = refl
       by false = refl
   walked-rounds q (faults f reason) = refl

@@ -1,6 +1,6 @@
 -- No total of a check is too large for 64 bits: what each command, round, sequence and chain adds is bounded by its bytes.
 -- Assumes nothing.
-use Prim.Native.Nat.{ℕ, zero, suc, ◌+◌, ◌*◌, ◌-◌, ◌≤◌, ◌<◌, ◌^◌, zero-le}
+use Prim.Native.Nat.{ℕ, zero, suc, ◌+◌, ◌*◌, ◌≤◌, ◌<◌, ◌^◌, zero-le}
 use native.Mathlib.Nat.{mul-le-mul, le_refl, suc-mul}
 use native.Mathlib.Omega.{arith}
 use mathlib.Core.List.{List, [], ◌∷◌}
