@@ -1,12 +1,12 @@
 -- Laws of the chain as the cards say it: one for each way out of its loop. Assumes nothing.
-use Prim.Native.Nat.{ℕ, zero, suc, ◌+◌, ◌*◌, ◌-◌, ◌≤◌, ◌<◌, ◌^◌}
-use native.Mathlib.Nat.{add-zero, zero-add}
+use Prim.Native.Nat.{ℕ, zero, suc, ◌+◌, ◌≤◌, ◌<◌, ◌^◌}
+use native.Mathlib.Nat.{add-zero}
 use native.Mathlib.Omega.{arith}
 use mathlib.Core.Path.{◌≡◌, refl, sym, ap, ◌∙◌, subst}
-use mathlib.Core.Bool.{Bool, true, false, cond, not, ◌&&◌, ◌||◌, or-true, false≢true}
+use mathlib.Core.Bool.{Bool, true, false, not, ◌&&◌, ◌||◌, or-true, false≢true}
 use mathlib.Core.List.{List, [], ◌∷◌, ◌++◌, reverse, reverse-cons, append-nil}
 use lib.Dec.{ltb, leb, eqb}
-use lib.ListN.{length, get_or, set, length-set, length-reverse}
+use lib.ListN.{get_or, set, length-set, length-reverse}
 use borrow.Author.Tests.{eqb-true, eq-eqb, ltb-false, leb-false}
 use Rattle.octets.specs.Bytes.{byte_at, number_at}
 use Rattle.octets.proofs.Bools.{by-test, choice, clash, or-neither}
@@ -18,10 +18,9 @@ use Rattle.survey.specs.declared.Closing.TheVariants.{Terminates, CallsOn}
 use Rattle.survey.specs.declared.Ending.{Ending}
 use Rattle.survey.specs.declared.Ending.TheVariants.{Unlisted, Finishes, Returns, Faults}
 use Rattle.survey.specs.declared.Reason.{Reason}
-use Rattle.survey.specs.declared.Report.{Report}
 use Rattle.survey.specs.Walk.{Finding, passes, faults}
-use Rattle.survey.specs.Chain.{Told, told, total, front, onward, follow, chain_of}
-use Rattle.survey.specs.Report.{padded, report_of}
+use Rattle.survey.specs.Chain.{Told, told, front, onward, follow, chain_of}
+use Rattle.survey.specs.Report.{report_of}
 use Rattle.survey.specs.Held.{Marked, Free, Is, joined, empty_chain}
 use Rattle.survey.proofs.Bits.{among-snoc}
 use Rattle.survey.proofs.Listing.{unlisted, unlisted-less, among-case}

@@ -1,32 +1,31 @@
 -- A summary that was fresh before an uplink is fresh after it, once the cards that the range names are worked out again. Assumes nothing.
-use Prim.Native.Nat.{ℕ, suc, ◌+◌, ◌*◌, ◌-◌, ◌/◌, ◌^◌, ◌≤◌, ◌<◌}
+use Prim.Native.Nat.{ℕ, ◌+◌, ◌*◌, ◌-◌, ◌/◌, ◌^◌, ◌≤◌, ◌<◌}
 use native.Mathlib.Nat.{suc-mul, div-lt_iff_lt-mul, le-div_iff_mul-le}
 use native.Mathlib.Omega.{arith}
-use mathlib.Core.Path.{◌≡◌, refl, sym, ap, ◌∙◌}
-use mathlib.Core.Bool.{Bool, true, false, cond, true≢false}
+use mathlib.Core.Path.{◌≡◌, sym, ap, ◌∙◌}
+use mathlib.Core.Bool.{true, false, true≢false}
 use mathlib.Core.List.{List}
-use mathlib.Core.Logic.{◌⊎◌, inl, inr}
+use mathlib.Core.Logic.{inl, inr}
 use lib.Dec.{leb}
 use lib.ListN.{length, take, drop}
-use borrow.Author.Tests.{leb-true, leb-false}
+use borrow.Author.Tests.{leb-false}
 use Rattle.octets.proofs.Bools.{by-test}
 use Rattle.memory.specs.declared.Format.{Format}
 use Rattle.memory.specs.declared.Range.TheVariants.{Sequences, LineLists}
-use Rattle.memory.specs.Memory.{entry_of, list_of, written}
+use Rattle.memory.specs.Memory.{entry_of, written}
 use Rattle.memory.proofs.Laws.{Fair}
-use Rattle.sequence.specs.declared.ListCard.{ListCard}
 use Rattle.sequence.specs.LineList.{list_card, card_bytes, card_read}
 use Rattle.sequence.specs.Starts.{among}
 use Rattle.sequence.specs.Env.{cards_of}
 use Rattle.sequence.proofs.Cards.{card-back}
-use Rattle.survey.specs.Tested.{tested_in, bits_of, has_list}
+use Rattle.survey.specs.Tested.{tested_in, has_list}
 use Rattle.survey.proofs.Bits.{bits_most, has-is}
 use Rattle.survey.specs.declared.Alone.{Alone}
 use Rattle.survey.specs.Report.{alone_in}
 use Rattle.summary.specs.Card.{head_of, steps_in, exposures_in, bytes_of, card_of, used_in}
-use Rattle.summary.specs.Summary.{line_card, seq_card, laid, card_in, line_in, summary_of, touches, uses_touched, line_after, card_after, renewed}
+use Rattle.summary.specs.Summary.{line_card, seq_card, card_in, line_in, summary_of, touches, uses_touched, line_after, card_after, renewed}
 use Rattle.summary.proofs.Numbers.{used-back}
-use Rattle.summary.proofs.Parts.{part-beside, laid-long, card-laid, line-laid, laid_same}
+use Rattle.summary.proofs.Parts.{part-beside, card-laid, line-laid, laid_same}
 use Rattle.summary.proofs.Writing.{seq-long, line-long}
 use Rattle.summary.proofs.Whole.{card-kept, card-same, some-touched}
 

@@ -1,6 +1,6 @@
 -- A card's bytes, read: each number is the one that was written. Assumes nothing.
 use Prim.Native.Nat.{ℕ, zero, suc, ◌+◌, ◌*◌, ◌-◌, ◌/◌, ◌%◌, ◌^◌, ◌≤◌, ◌<◌}
-use native.Mathlib.Nat.{zero-lt-suc, pow-le-pow_right, pow-suc, div-div-eq-div-mul, div-eq_of_lt, div-one, not-suc-le-zero}
+use native.Mathlib.Nat.{zero-lt-suc, pow-le-pow_right, pow-suc, div-div-eq-div-mul, div-eq_of_lt, div-one}
 use native.Mathlib.Omega.{arith}
 use mathlib.Core.Path.{◌≡◌, refl, sym, ap, ◌∙◌}
 use mathlib.Core.List.{List}

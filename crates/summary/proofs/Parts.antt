@@ -3,10 +3,10 @@ use Prim.Native.Nat.{ℕ, zero, suc, ◌+◌, ◌*◌, ◌-◌, ◌≤◌, ◌<�
 use native.Mathlib.Nat.{add-zero, zero-add}
 use native.Mathlib.Omega.{arith}
 use mathlib.Core.Path.{◌≡◌, refl, sym, ap, ap₂, ◌∙◌}
-use mathlib.Core.List.{List, [], ◌∷◌, ◌++◌, append-nil, append_assoc}
+use mathlib.Core.List.{List, [], ◌++◌, append-nil, append_assoc}
 use mathlib.Core.Logic.{◌⊎◌, inl, inr}
 use lib.ListN.{length, get_or, take, drop, length-take, length-drop, length-append, take-append-drop}
-use lib.Seq.{get_or-take, get_or-drop, ext_get_or, take-add, take_all, drop-drop, take_at, drop_at, drop-append-add}
+use lib.Seq.{ext_get_or, take-add, take_all, drop-drop, take_at, drop_at, drop-append-add}
 use Rattle.memory.specs.declared.Format.{Format}
 use Rattle.memory.specs.Memory.{written}
 use Rattle.memory.proofs.Laws.{written-length, written-other, written_same, part-byte, part-long}

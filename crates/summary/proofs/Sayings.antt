@@ -1,8 +1,8 @@
 -- What a card says, by its bytes. Assumes nothing.
-use Prim.Native.Nat.{ℕ, ◌≤◌, ◌^◌}
+use Prim.Native.Nat.{ℕ, ◌^◌}
 use native.Mathlib.Omega.{arith}
-use mathlib.Core.Path.{◌≡◌, refl, sym, ap, ◌∙◌}
-use mathlib.Core.Bool.{Bool, true, false, cond, ◌&&◌, ◌||◌, or-true}
+use mathlib.Core.Path.{◌≡◌}
+use mathlib.Core.Bool.{Bool, true, false, ◌&&◌, ◌||◌, or-true}
 use mathlib.Core.List.{List}
 use lib.Dec.{ltb, leb, eqb}
 use borrow.Author.Tests.{lt-ltb, le-ltb, ne_eqb, eqb-true, leb-true, leb-false}
@@ -10,7 +10,6 @@ use Rattle.octets.specs.Bytes.{byte_at, number_at}
 use Rattle.octets.proofs.Bools.{by-test, and_both}
 use Rattle.memory.specs.declared.Format.{Format}
 use Rattle.sequence.specs.Text.{fault}
-use Rattle.summary.specs.declared.Said.{Said}
 use Rattle.summary.specs.declared.Said.TheVariants.{Wrong, Faults, Ends, Calls}
 use Rattle.summary.specs.Chain.{card_wrong, reason_read, said_by}
 use Rattle.summary.specs.Held.{said_of}

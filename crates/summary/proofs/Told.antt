@@ -1,14 +1,14 @@
 -- From a fresh summary the chain check is the table check. Assumes nothing.
-use Prim.Native.Nat.{ℕ, zero, suc, ◌+◌, ◌*◌, ◌-◌, ◌≤◌, ◌<◌, ◌^◌}
+use Prim.Native.Nat.{ℕ, zero, suc, ◌*◌, ◌-◌, ◌≤◌, ◌^◌}
 use native.Mathlib.Nat.{mul-le-mul}
 use native.Mathlib.Omega.{arith}
-use mathlib.Core.Path.{◌≡◌, refl, sym, ap, ◌∙◌}
-use mathlib.Core.Bool.{Bool, true, false, cond, false≢true}
+use mathlib.Core.Path.{◌≡◌, refl, ap, ◌∙◌}
+use mathlib.Core.Bool.{true, false, cond, false≢true}
 use mathlib.Core.List.{List, [], ◌∷◌}
 use lib.Dec.{ltb, eqb}
 use lib.ListN.{length}
 use borrow.Author.Tests.{ltb-false, lt-leb, le-ltb, eq-eqb, eqb-true}
-use Rattle.octets.specs.Bytes.{byte_at, number_at}
+use Rattle.octets.specs.Bytes.{byte_at}
 use Rattle.octets.specs.Rows.{first_code}
 use Rattle.octets.proofs.Bools.{by-test, choice, clash}
 use Rattle.memory.specs.declared.Format.{Format}
@@ -21,25 +21,24 @@ use Rattle.sequence.specs.Starts.{among}
 use Rattle.sequence.specs.Text.{header_of, header_rows}
 use Rattle.sequence.specs.Env.{Env, env_of, cards_of}
 use Rattle.runner.specs.declared.Opened.TheVariants.{Shut}
-use Rattle.survey.specs.declared.Closing.{Closing}
 use Rattle.survey.specs.declared.Closing.TheVariants.{Terminates, CallsOn}
 use Rattle.survey.specs.declared.Ending.TheVariants.{Returns}
 use Rattle.survey.specs.declared.Reason.{Reason}
 use Rattle.survey.specs.declared.Reason.TheVariants.{None, OfList, Mark}
 use Rattle.survey.specs.Walk.{Finding, passes, faults, walk, rounds, checked_by, check_one, finding_of}
-use Rattle.survey.specs.Chain.{Told, told, onward, follow, chain_of, check_by, check_rows, check_of}
+use Rattle.survey.specs.Chain.{Told, told, onward, follow, chain_of, check_rows, check_of}
 use Rattle.survey.specs.Tested.{tested_in, bits_of}
-use Rattle.survey.specs.Report.{walked_of, reason_shown, reason_found, alone_in}
+use Rattle.survey.specs.Report.{walked_of, reason_shown, reason_found}
 use Rattle.survey.proofs.Names.{Low, low-one, Chained, chain-chained}
 use Rattle.survey.proofs.Totals.{Octets, part-octets, Small, small-more, walk-small}
 use Rattle.survey.proofs.Frame.{chain_same}
 use Rattle.summary.specs.Card.{passing, bytes_of, card_of}
-use Rattle.summary.specs.Summary.{seq_card, line_card, lines_at, summary_wrong, card_in, summary_of}
-use Rattle.summary.specs.Chain.{card_wrong, reason_read, closing_of, said_by, sayings, some_wrong, unless_wrong, cards_rows, check_cards}
+use Rattle.summary.specs.Summary.{seq_card, line_card, summary_wrong, card_in, summary_of}
+use Rattle.summary.specs.Chain.{card_wrong, reason_read, said_by, sayings, unless_wrong, cards_rows, check_cards}
 use Rattle.summary.proofs.Numbers.{steps_back, exposures-back}
 use Rattle.summary.proofs.Parts.{laid-long}
 use Rattle.summary.proofs.Writing.{seq-long, line-long}
-use Rattle.summary.proofs.Chains.{Right, none-wrong}
+use Rattle.summary.proofs.Chains.{none-wrong}
 use Rattle.summary.proofs.Kept.{fresh-card}
 
 -- ── a finding without what a card does not hold

@@ -16,21 +16,18 @@ use Rattle.memory.specs.declared.Range.TheVariants.{Sequences, LineLists}
 use Rattle.memory.specs.Memory.{fills, entry_of, written}
 use Rattle.memory.proofs.Laws.{Fair, written-length}
 use Rattle.sequence.specs.declared.ListCard.{ListCard}
-use Rattle.sequence.specs.LineList.{card_bytes, card_read}
+use Rattle.sequence.specs.LineList.{card_read}
 use Rattle.sequence.specs.Starts.{among}
 use Rattle.sequence.specs.Env.{cards_of, cards_kept}
 use Rattle.sequence.proofs.Cards.{card-back}
-use Rattle.survey.specs.declared.Alone.{Alone}
-use Rattle.survey.specs.Walk.{check_one}
 use Rattle.survey.specs.Tested.{tested_in, bits_of, has_list}
 use Rattle.survey.specs.Report.{walked_of, reason_found}
 use Rattle.survey.proofs.Tested.{tested-same}
-use Rattle.summary.specs.declared.Named.TheVariants.{All, Using}
 use Rattle.summary.specs.Card.{bytes_of, card_of, used_in}
-use Rattle.summary.specs.Summary.{line_card, seq_card, laid, lines_at, summary_wrong, card_in, line_in, summary_of, touches, line_touched, uses_touched, seq_named, line_after, card_after, renewed}
-use Rattle.summary.specs.Held.{Sized, Lines, Renews, RenewsUsers, names}
+use Rattle.summary.specs.Summary.{line_card, seq_card, lines_at, summary_wrong, card_in, summary_of, touches, uses_touched, line_after, card_after, renewed}
+use Rattle.summary.specs.Held.{Sized, Lines, Renews, RenewsUsers}
 use Rattle.summary.proofs.Parts.{laid-is}
-use Rattle.summary.proofs.Writing.{lines-there, cards-before}
+use Rattle.summary.proofs.Writing.{lines-there}
 
 -- a summary that is not wrong has its format's size
 pub sized_of : (F : Format) (s : List ℕ) → summary_wrong F s ≡ false → Sized F s

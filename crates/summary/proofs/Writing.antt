@@ -1,12 +1,12 @@
 -- One card written into a summary: it stands there, and all else is as it was. Assumes nothing.
-use Prim.Native.Nat.{ℕ, zero, suc, ◌+◌, ◌*◌, ◌-◌, ◌≤◌, ◌<◌}
+use Prim.Native.Nat.{ℕ, ◌+◌, ◌*◌, ◌-◌, ◌≤◌, ◌<◌}
 use native.Mathlib.Decide.{ℕ_discrete, dec_lt}
 use native.Mathlib.Omega.{arith}
 use mathlib.Core.Path.{◌≡◌, refl, sym, ap, ◌∙◌}
 use mathlib.Core.Bool.{Bool, true, false, cond, ◌&&◌}
-use mathlib.Core.List.{List, [], ◌∷◌, ◌++◌, append-nil}
+use mathlib.Core.List.{List, append-nil}
 use mathlib.Core.Logic.{◌⊎◌, inl, inr}
-use lib.ListN.{length, take, drop, replicate, length-take, length-drop}
+use lib.ListN.{length, take, drop, replicate, length-drop}
 use lib.Seq.{take_all}
 use lib.Dec.{leb}
 use borrow.Author.Tests.{le-leb, leb-true, leb-false}
@@ -20,10 +20,9 @@ use Rattle.sequence.specs.LineList.{list_card, card_with, card_bytes}
 use Rattle.sequence.specs.Env.{cards_kept}
 use Rattle.survey.specs.Report.{alone_of}
 use Rattle.summary.specs.Card.{bytes_of, card_of}
-use Rattle.summary.specs.Summary.{seq_card, line_card, lines_at, card_in, line_in}
+use Rattle.summary.specs.Summary.{seq_card, line_card, lines_at, card_in}
 use Rattle.summary.specs.Held.{Lines, Renews}
 use Rattle.summary.proofs.Parts.{part-written, part-beside}
-use Rattle.summary.proofs.Numbers.{card-long}
 
 -- ── the cards
 -- what is known of a sequence, in bytes, is its card

@@ -1,5 +1,5 @@
 -- For the proofs of the code, what it holds on its way.
-use Rattle.std.specs.Prelude.{ℕ, suc, ◌+◌, ◌*◌, ◌≤◌, ◌<◌, ◌≡◌, Bool, true, cond, ◌&&◌, ◌||◌, List, ◌⊎◌, leb, length, take, drop}
+use Rattle.std.specs.Prelude.{ℕ, ◌+◌, ◌*◌, ◌≤◌, ◌<◌, ◌≡◌, Bool, true, cond, ◌||◌, List, ◌⊎◌, length, take, drop}
 use Rattle.memory.specs.declared.Format.{Format}
 use Rattle.memory.specs.Memory.{fills}
 use Rattle.sequence.specs.Env.{cards_kept}

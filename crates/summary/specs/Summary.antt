@@ -1,6 +1,6 @@
 -- The summary of two tables: a card for each sequence, 32 bytes each, then one for each line list, 4 bytes each.
 use Rattle.std.specs.Prelude.{ℕ, zero, suc, ◌+◌, ◌*◌, ◌-◌, ◌/◌, Bool, false, cond, not, ◌&&◌, ◌||◌, List, [], ◌∷◌, ◌++◌, ltb, leb, eqb, length, take, drop}
-use Rattle.octets.specs.Rows.{Row, row, first_code}
+use Rattle.octets.specs.Rows.{row, first_code}
 use Rattle.memory.specs.declared.Format.{Format}
 use Rattle.memory.specs.declared.Range.{Range}
 use Rattle.memory.specs.declared.Range.TheVariants.{Sequences, LineLists, Wrong}
