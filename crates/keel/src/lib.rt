@@ -233,13 +233,7 @@ fn tell(found: Report, report: &mut [u8]) -> u8
 }
 
 // The table check of a sequence: its code, and its report of 152 bytes.
-pub fn keel_check(
-    kind: u32,
-    seqs: &[u8],
-    lists: &[u8],
-    number: u32,
-    report: &mut [u8],
-) -> u32
+pub fn keel_check(kind: u32, seqs: &[u8], lists: &[u8], number: u32, report: &mut [u8]) -> u32
     ensures value { result ≡ check_answer (format_of kind) seqs.now lists.now number report.old }
     ensures report_after { report.new ≡ report_after (format_of kind) seqs.now lists.now number report.old }
 {
