@@ -15,32 +15,20 @@
 #   vectors FOLDER   the proved programs on the folder's desk-N.in and tables-N.bin; says how many are equal, the reasons of faults
 #                    with code 7 left out, and how many were moved by P1's and P5's rules: those that are as the plain programs
 #                    have them. Then tablecheck and cards on its core-new-N.bin and core-old-N.bin: these are equal to the byte
-#   counts           one table of instructions, proved and plain, counted by the emulator: the same on every machine that has it
-#   unproved STAGE.. library, bench and counts take the library as its sources stand, compiled without its proofs
-# All programs are for x86-64, built by the same compiler as the proved ones, and run with its C library;
-# on another machine they run under its emulator, and their times say nothing.
+#   counts           one table of instructions, proved and plain, counted by valgrind: the same for the same code on every machine
+# All programs are for x86-64 and built by the same compiler as the proved ones. What is compared is proved code alone: the toolchain
+# makes no library without its proofs.
 set -euo pipefail
 
 from=$PWD
 cd "$(dirname "${BASH_SOURCE[0]}")/.."
 here=compare
 build=target/compare
-kit=$(dirname "$(dirname "$(rt doc)")")
-own=$kit/on/$(uname -m)
-tools=$own/toolchain
+tools=$(dirname "$(rt doc)")/toolchain
 lines=100000
 rounds=4000
-unproved=
 
-runner=("$tools/lib/ld-linux-x86-64.so.2" --library-path "$tools/lib")
-emulated=
-if [ -x "$tools/bin/qemu-x86_64" ]; then
-    runner=("$tools/bin/qemu-x86_64" "${runner[@]}")
-    emulated='under the emulator: these times say nothing'
-    rounds=400
-fi
-
-run() { "${runner[@]}" "$@"; }
+run() { "$@"; }
 
 compile() { # OBJECT SOURCE [FLAGS..]
     "$tools/bin/clang" --target=x86_64-unknown-linux-gnu -march=x86-64 -O3 -std=c11 -Wall -Wextra -Werror \
@@ -48,8 +36,7 @@ compile() { # OBJECT SOURCE [FLAGS..]
 }
 
 assemble() { # PROGRAM FILE..
-    "$own/bin/rattle-link" --target x86_64-unknown-linux-gnu --toolchain "$tools" -o "$@" 2>"$build/link.log" ||
-        { cat "$build/link.log"; return 1; }
+    cc -o "$@" 2>"$build/link.log" || { cat "$build/link.log"; return 1; }
 }
 
 as_keel=(-Dplain_power_on=keel_power_on -Dplain_packet=keel_packet -Dplain_step=keel_step -Dplain_check=keel_check
@@ -137,35 +124,29 @@ sources() {
     } | sha256sum
 }
 
-# The library compiled without its proofs.
-compile_unproved() { # ARCHIVE
-    local file name libraries=()
-    for file in crates/*/src/lib.rt "$kit"/libs/*/src/lib.rt; do
-        name=$(basename "${file%/src/lib.rt}")
-        [ "$name" = keel ] || libraries+=(--lib "$name=$file")
-    done
-    "$own/bin/rattle-cases" --toolchain "$tools" --staticlib "$1" crates/keel/src/lib.rt --crate-name keel "${libraries[@]}"
-}
-
 # The driver and the benchmark over the library, which is proved again only where something has changed.
 build_library() {
-    local library=$build/library archive=target/staticlib/libkeel.a
+    local library=$build/library archive=$build/library/libkeel.a
     mkdir -p "$library"
-    if [ -n "$unproved" ]; then
-        archive=$library/unproved.a
-        compile_unproved "$archive"
-    elif [ ! -f "$archive" ] || [ "$(sources)" != "$(cat "$library/sources" 2>/dev/null)" ]; then
+    if [ ! -f "$archive" ] || [ "$(sources)" != "$(cat "$library/sources" 2>/dev/null)" ]; then
         rm -f "$library/sources"
-        rt staticlib keel
+        (cd crates/keel_c && rt lib)
+        cp crates/keel_c/out/libkeel_c.a "$archive"
         sources >"$library/sources"
     fi
     build_over "$library" include "$archive"
 }
 
+# A program as it is proved: crates/NAME/out/NAME.
+build_program() { # NAME
+    (cd "crates/$1" && rt run </dev/null >/dev/null)
+}
+
 # The proved programs, and what they are run on: a script of 100,000 lines for each kind; 2.6 million steps of the two sequences
 # that call each other in demo/; tables.
 build_programs() {
-    rt check desk tablecheck
+    build_program desk
+    build_program tablecheck
     run "$build/made" script 1 "$lines" >"$build/lines.in"
     run "$build/made" script 1 "$lines" old >"$build/old.in"
     { sed '/^01$/,$d' demo/two-that-call-each-other.in; printf 'STEP 65535\n%.0s' {1..40}; } >"$build/steps.in"
@@ -187,7 +168,7 @@ least() {
 }
 
 in_turns() { # NAME ROUNDS INPUT PROVED PLAIN
-    run "$build/turns" "$@" "${runner[@]}"
+    run "$build/turns" "$@"
 }
 
 # The kind of machine, the day, and the commit that the code was last changed by.
@@ -196,46 +177,41 @@ this_run() {
     kind=$(sed -n 's/^model name[^:]*: //p' /proc/cpuinfo | head -n 1)
     code=$(git log -1 --format=%h -- 'crates/*/src/*' crates.txt)
     git diff --quiet HEAD -- 'crates/*/src/*' crates.txt || code+=' and changes'
-    echo "$(uname -m) ${kind:-unnamed}, $(nproc) processors; $(date -u +%F); code of $code${unproved:+, NOT PROVED}"
+    echo "$(uname -m) ${kind:-unnamed}, $(nproc) processors; $(date -u +%F); code of $code"
 }
 
 # Every row once, as the libraries and the programs are now.
 rows() {
     run "$build/library/bench"
-    [ -z "$unproved" ] || return 0
-    in_turns 'desk, 100,000 lines' 9 "$build/lines.in" target/bin/desk "$build/plain_desk"
-    in_turns 'desk, 2.6 million steps' 9 "$build/steps.in" target/bin/desk "$build/plain_desk"
-    in_turns 'tablecheck of 128' 101 "$build/tables.bin" target/bin/tablecheck "$build/plain_survey"
+    in_turns 'desk, 100,000 lines' 9 "$build/lines.in" crates/desk/out/desk "$build/plain_desk"
+    in_turns 'desk, 2.6 million steps' 9 "$build/steps.in" crates/desk/out/desk "$build/plain_desk"
+    in_turns 'tablecheck of 128' 101 "$build/tables.bin" crates/tablecheck/out/tablecheck "$build/plain_survey"
 }
 
 # Where a process happens to lie in memory, and what else the machine does, moves a row by a tenth: so all rows five times.
 stage_bench() {
     local stored=$here/baseline.txt
     build_library
-    [ -n "$unproved" ] || build_programs
+    build_programs
     for _ in 1 2 3 4 5; do rows; done | least >"$build/rows.tsv"
-    [ -z "$emulated" ] || echo "$emulated"
     echo "this run: $(this_run)"
     if [ -f "$stored" ]; then sed -n 's/^# /baseline: /p' "$stored"; else stored=/dev/null; fi
     awk -f "$here/table.awk" "$here/bars.txt" "$stored" "$build/rows.tsv"
 }
 
 stage_baseline() {
-    [ -z "$unproved" ] || { echo "run.sh: a baseline is of proved code" >&2; return 2; }
     stage_bench
     { echo "# $(this_run)"; cat "$build/rows.tsv"; } >"$here/baseline.txt"
 }
 
 # How many instructions a run of the benchmark's one row takes in all.
 instructions() { # ROW SIDE TIMES
-    "$tools/bin/qemu-x86_64" -one-insn-per-tb -d exec,nochain -D /dev/stderr "${runner[@]:1}" \
-        "$build/library/bench" "$@" 2>&1 >/dev/null | wc -l
+    valgrind --tool=callgrind --callgrind-out-file=/dev/null "$build/library/bench" "$@" 2>&1 >/dev/null | sed -n 's/.*Collected : //p'
 }
 
 # The instructions of one thing that a row does: two calls more, and the rest is the same.
 stage_counts() {
     local row name things side one
-    [ -n "$emulated" ] || { echo "run.sh: counts wants the emulator" >&2; return 2; }
     build_library
     for row in {0..26}; do
         IFS=$'\t' read -r name things < <(run "$build/library/bench" "$row" k 0)
@@ -250,7 +226,7 @@ stage_counts() {
 
 # The two desks on one script, with these words as arguments.
 same_desk() { # SCRIPT WORD..
-    run target/bin/desk "${@:2}" <"$build/$1.in" >"$build/desk.out"
+    run crates/desk/out/desk "${@:2}" <"$build/$1.in" >"$build/desk.out"
     run "$build/plain_desk" "${@:2}" <"$build/$1.in" | cmp - "$build/desk.out"
     echo "desks${2:+, ${*:2}}: equal output, $(wc -l <"$build/$1.in") lines in, $(wc -l <"$build/desk.out") out"
 }
@@ -268,14 +244,14 @@ stage_desks() {
 
 # The two table checks on one input, with these words as arguments.
 same_survey() { # INPUT WORD..
-    run target/bin/tablecheck "${@:2}" <"$1" >"$build/survey.out"
+    run crates/tablecheck/out/tablecheck "${@:2}" <"$1" >"$build/survey.out"
     run "$build/plain_survey" "${@:2}" <"$1" | cmp - "$build/survey.out"
 }
 
 # Each table also as one of the other kind, and `old` and `same` where they are words like any other.
 stage_surveys() {
     local tables=$build/survey.bin old=$build/survey-old.bin twice=$build/twice.bin old_twice=$build/twice-old.bin seed
-    rt check tablecheck
+    build_program tablecheck
     for seed in 1 2 3 4 5 6 7 8; do
         run "$build/made" tables "$seed" >"$tables"
         same_survey "$tables"
@@ -339,14 +315,14 @@ stage_surveys() {
 
 # The two programs that show a summary, on one input, with these words as arguments.
 same_cards() { # INPUT WORD..
-    run target/bin/cards "${@:2}" <"$1" >"$build/cards.out"
+    run crates/cards/out/cards "${@:2}" <"$1" >"$build/cards.out"
     run "$build/plain_cards" "${@:2}" <"$1" | cmp - "$build/cards.out"
 }
 
 # Each table also as one of the other kind, and `old` where it is a word like any other.
 stage_cards() {
     local tables=$build/cards.bin old=$build/cards-old.bin seed
-    rt check cards
+    build_program cards
     for seed in {1..16}; do
         run "$build/made" tables "$seed" >"$tables"
         same_cards "$tables"
@@ -379,7 +355,7 @@ stage_cards() {
 vector() { # PROGRAM PLAIN INPUT WANTED
     local got=$build/vector.out
     all=$((all + 1))
-    run "target/bin/$1" <"$3" >"$got"
+    run "crates/$1/out/$1" <"$3" >"$got"
     if sed '/^FAULT [^ ]* 7 /s/ REASON .*//' "$got" | cmp -s - "$4"; then
         equal=$((equal + 1))
     elif run "$build/$2" <"$3" | cmp -s - "$got"; then
@@ -395,7 +371,7 @@ vector() { # PROGRAM PLAIN INPUT WANTED
 # byte.
 core_vector() { # PROGRAM ENDING INPUT WORD..
     all=$((all + 1))
-    if run "target/bin/$1" "${@:4}" <"$3" | cmp -s - "${3%.bin}.$2"; then
+    if run "crates/$1/out/$1" "${@:4}" <"$3" | cmp -s - "${3%.bin}.$2"; then
         equal=$((equal + 1))
     else
         echo "${3##*/}: not equal to its .$2"
@@ -404,7 +380,7 @@ core_vector() { # PROGRAM ENDING INPUT WORD..
 
 stage_vectors() { # FOLDER
     local all=0 equal=0 moved=0 file number
-    rt check desk tablecheck cards
+    for program in desk tablecheck cards; do build_program "$program"; done
     for file in "$1"/desk-*.in; do vector desk plain_desk "$file" "${file%.in}.out"; done
     for file in "$1"/tables-*.bin; do
         number=${file##*/tables-}
@@ -433,7 +409,6 @@ while [ $# -gt 0 ]; do
         stage_vectors "$(cd "$from" && cd "${2:?a folder is wanted}" && pwd)"
         shift
         ;;
-    unproved) unproved=yes ;;
     *) echo "run.sh: no stage $1" >&2; exit 2 ;;
     esac
     shift

@@ -1,6 +1,6 @@
 /*
- * turns NAME ROUNDS INPUT PROVED PLAIN RUNNER..: two programs run in turns on one input, each so many
- * times, started by the words of RUNNER. Prints a row as bench.c does: the name, the least time of the
+ * turns NAME ROUNDS INPUT PROVED PLAIN [RUNNER..]: two programs run in turns on one input, each so many
+ * times, started by the words of RUNNER, where there are any. Prints a row as bench.c does: the name, the least time of the
  * proved and of the plain one in nanoseconds, from start to end of the process, with tabs between.
  */
 #include <fcntl.h>
@@ -42,8 +42,8 @@ int main(int argc, char **argv)
     double least[2] = {1e18, 1e18};
     int runner = argc - 6;
 
-    if (runner < 1 || runner > MOST_WORDS) {
-        fputs("usage: turns NAME ROUNDS INPUT PROVED PLAIN RUNNER..\n", stderr);
+    if (runner < 0 || runner > MOST_WORDS) {
+        fputs("usage: turns NAME ROUNDS INPUT PROVED PLAIN [RUNNER..]\n", stderr);
         return 2;
     }
     for (int i = 0; i < runner; i++)

@@ -3,7 +3,7 @@
 // A read or a write that fails ends it with that error.
 #![tactic(auto)]
 
-ghost use Rattle.std.specs.Prelude.{◌<◌, ◌≤◌, length, IfOk};
+ghost use Rattle.std.specs.Prelude.{◌<◌, ◌≤◌, ◌≡◌, length, IfOk};
 
 use line::Line;
 use std::io;
@@ -194,9 +194,10 @@ fn take_lines(
     Ok(desk)
 }
 
-// Reads a piece of input: so many bytes, none where it has ended.
+// Reads a piece of input: so many bytes, none where it has ended. An error leaves as many bytes as there were.
 fn read_some(input: &mut impl Read, piece: &mut [u8]) -> io::Result<usize>
-    ensures { IfOk result (λ n. n ≤ length piece.old) }
+    ensures within { IfOk result (λ n. n ≤ length piece.old) }
+    ensures kept { length piece.new ≡ length piece.old }
 {
     input.read(piece)
 }
