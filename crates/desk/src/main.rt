@@ -1,12 +1,10 @@
 // The desk: packets and steps from standard input, answers and events to standard output; `desk old` for a unit of the old kind. Text waits
 // to be written until a piece of input is worked off, or until it has no room left; so a person sees each answer before the next read.
-// A read or a write that fails ends it with that error.
 #![tactic(auto)]
 
-ghost use Rattle.std.specs.Prelude.{◌<◌, ◌≤◌, ◌≡◌, length, IfOk};
+ghost use Rattle.std.specs.Prelude.{◌<◌, ◌≤◌, length};
 
 use line::Line;
-use std::io;
 use std::io::Read;
 use std::rt::Env;
 use unit::{Outcome, Unit};
@@ -40,16 +38,16 @@ struct Piece {
 }
 
 // Writes out the text that waits; the next goes to the start.
-fn write_out(rt: &impl Print, text: &[u8], at: usize) -> io::Result<usize> {
-    rt.write_all(octets::part(text, 0, at))?;
-    Ok(0)
+fn write_out(rt: &impl Print, text: &[u8], at: usize) -> usize {
+    let _ = rt.write_all(octets::part(text, 0, at));
+    0
 }
 
 // Where the next text goes, with room for n bytes: what waits is written out where there is less.
-fn room(rt: &impl Print, text: &[u8], at: usize, n: usize) -> io::Result<usize> {
+fn room(rt: &impl Print, text: &[u8], at: usize, n: usize) -> usize {
     if at <= text.len() {
         if n <= text.len() - at {
-            return Ok(at);
+            return at;
         }
     }
     write_out(rt, text, at)
@@ -73,34 +71,28 @@ fn take_packet(
     typed: &[u8; 140],
     n: usize,
     text: &mut [u8],
-) -> io::Result<Desk> {
+) -> Desk {
     let packet = octets::part(typed, 0, n);
     let answer = desk.unit.packet(desk.kind, seqs, lists, out, 0, packet);
     let bc1 = octets::byte(packet, 0);
-    let from = room(rt, text, desk.at, ANSWER)?;
+    let from = room(rt, text, desk.at, ANSWER);
     let after = line::put_answer(text, from, bc1, answer.code);
     let at = put_reply(text, after, bc1, octets::part(out, 0, answer.size));
     let unit = answer.unit;
-    Ok(Desk { unit, at, ..desk })
+    Desk { unit, at, ..desk }
 }
 
 // One step, and its event shown. The desk's tables and state are never refused.
-fn take_step(
-    rt: &impl Print,
-    desk: Desk,
-    seqs: &[u8],
-    lists: &[u8],
-    text: &mut [u8],
-) -> io::Result<Desk> {
+fn take_step(rt: &impl Print, desk: Desk, seqs: &[u8], lists: &[u8], text: &mut [u8]) -> Desk {
     let step = desk.unit.step(desk.kind, seqs, lists);
     let unit = step.unit;
     let outcome = step.outcome;
-    let from = room(rt, text, desk.at, EVENT)?;
+    let from = room(rt, text, desk.at, EVENT);
     let at = match outcome {
         Outcome::Denied(_) => from,
         Outcome::Saw(event) => line::put_event(text, from, event, unit.watch.exposures),
     };
-    Ok(Desk { unit, at, ..desk })
+    Desk { unit, at, ..desk }
 }
 
 // So many steps.
@@ -111,19 +103,19 @@ fn take_steps(
     lists: &[u8],
     n: u16,
     text: &mut [u8],
-) -> io::Result<Desk> {
+) -> Desk {
     let mut desk = start;
     for _ in 0..n {
-        desk = take_step(rt, desk, seqs, lists, text)?;
+        desk = take_step(rt, desk, seqs, lists, text);
     }
-    Ok(desk)
+    desk
 }
 
 // A line that is no packet and no STEP.
-fn take_bad(rt: &impl Print, desk: Desk, text: &mut [u8]) -> io::Result<Desk> {
-    let from = room(rt, text, desk.at, EVENT)?;
+fn take_bad(rt: &impl Print, desk: Desk, text: &mut [u8]) -> Desk {
+    let from = room(rt, text, desk.at, EVENT);
     let at = line::put_bad(text, from);
-    Ok(Desk { at, ..desk })
+    Desk { at, ..desk }
 }
 
 // A line: a packet, steps, or BAD, which reaches the unit in no way.
@@ -135,7 +127,7 @@ fn take_line(
     out: &mut [u8],
     typed: &[u8],
     text: &mut [u8],
-) -> io::Result<Desk> {
+) -> Desk {
     let mut packet = [0u8; 140];
     match line::read_line(typed, &mut packet) {
         Line::Packet(n) => take_packet(rt, desk, seqs, lists, out, &packet, n, text),
@@ -180,35 +172,34 @@ fn take_lines(
     out: &mut [u8],
     typed: &[u8],
     text: &mut [u8],
-) -> io::Result<Desk> {
+) -> Desk {
     let mut desk = start;
     let mut from = 0;
     while from < typed.len() {
         let end = line_end(typed, from);
         let next = end + 1;
         let part = octets::part(typed, from, end - from);
-        desk = take_line(rt, desk, seqs, lists, out, part, text)?;
+        desk = take_line(rt, desk, seqs, lists, out, part, text);
         from = next;
     }
-    desk.at = write_out(rt, text, desk.at)?;
-    Ok(desk)
+    desk.at = write_out(rt, text, desk.at);
+    desk
 }
 
-// Reads a piece of input: so many bytes, none where it has ended. An error leaves as many bytes as there were.
-fn read_some(input: &mut impl Read, piece: &mut [u8]) -> io::Result<usize>
-    ensures within { IfOk result (λ n. n ≤ length piece.old) }
-    ensures kept { length piece.new ≡ length piece.old }
+// Reads a piece of input: so many bytes, none where it has ended.
+fn read_some(input: &mut impl Read, piece: &mut [u8]) -> usize
+    ensures { result ≤ length piece.old }
 {
-    input.read(piece)
+    input.read(piece).unwrap_or(0)
 }
 
 // Reads on behind what is kept, and answers where the bytes end.
-fn read_behind(input: &mut impl Read, piece: &mut [u8], kept: usize) -> io::Result<usize> {
+fn read_behind(input: &mut impl Read, piece: &mut [u8], kept: usize) -> usize {
     if piece.len() < kept {
-        return Ok(kept);
+        return kept;
     }
-    let more = read_some(input, &mut piece[kept..])?;
-    Ok(kept + more)
+    let more = read_some(input, &mut piece[kept..]);
+    kept + more
 }
 
 // Keeps the line that is not whole yet: moves it to the front. No more of it is kept than makes it too long, so that it is BAD
@@ -223,27 +214,27 @@ fn keep(piece: &mut [u8], last: Piece) -> usize {
 }
 
 // The next piece of input, behind what is kept of the last one. Where the input has ended a newline closes the line that is kept.
-fn next_piece(input: &mut impl Read, piece: &mut [u8], last: Piece) -> io::Result<Piece> {
+fn next_piece(input: &mut impl Read, piece: &mut [u8], last: Piece) -> Piece {
     let kept = keep(piece, last);
-    let count = read_behind(input, piece, kept)?;
+    let count = read_behind(input, piece, kept);
     if count != kept {
         let whole = whole(piece, count);
-        return Ok(Piece {
+        return Piece {
             count,
             whole,
             more: true,
-        });
+        };
     }
     let end = if kept == 0 {
         0
     } else {
         line::put(piece, kept, b'\n')
     };
-    Ok(Piece {
+    Piece {
         count: end,
         whole: end,
         more: false,
-    })
+    }
 }
 
 // The turns left after one: none where the input has ended.
@@ -264,7 +255,7 @@ fn run(
     out: &mut [u8],
     piece: &mut [u8],
     text: &mut [u8],
-) -> io::Result<()> {
+) {
     let unit = Unit::power_on();
     let mut desk = Desk { kind, unit, at: 0 };
     let mut held = Piece {
@@ -274,12 +265,11 @@ fn run(
     };
     let mut turns = u64::MAX;
     while 0 < turns {
-        held = next_piece(input, piece, held)?;
+        held = next_piece(input, piece, held);
         let typed = octets::part(piece, 0, held.whole);
-        desk = take_lines(rt, desk, seqs, lists, out, typed, text)?;
+        desk = take_lines(rt, desk, seqs, lists, out, typed, text);
         turns = turns_left(held.more, turns);
     }
-    Ok(())
 }
 
 // Puts an argument at a buffer's start and answers its length: 0 where there is none, or it is longer than the buffer.
@@ -287,7 +277,7 @@ fn arg(rt: &impl Env, i: usize, buf: &mut [u8]) -> usize {
     rt.arg(i, buf).unwrap_or(0)
 }
 
-fn main(rt: HostRuntime) -> io::Result<()> {
+fn main(rt: HostRuntime) {
     let mut seqs = [0u8; Unit::SEQUENCE_TABLE];
     let mut lists = [0u8; Unit::LINE_LIST_TABLE];
     let mut out = [0u8; Unit::SEQUENCE_TABLE];

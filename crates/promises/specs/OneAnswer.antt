@@ -2,6 +2,7 @@
 -- all inputs and refusals: two results that it allows coincide.
 -- The statements are over the contracts themselves: `Learnt` is what a caller learns of a function from its `ensures`, as Rattle reads it from
 -- the source. proofs/OneAnswer proves each under the name of its function.
+-- The exports of `keel_c` have the clauses of `keel`'s functions, word for word, so what stands here of these holds of them.
 use Rattle.std.specs.Prelude.{ℕ, ◌≡◌, Bool, List}
 use contract.Lifetimes.{Lfts}
 use denote.Triple.Clauses.{AtExit}
