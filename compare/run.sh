@@ -126,12 +126,11 @@ sources() {
 
 # The driver and the benchmark over the library, which is proved again only where something has changed.
 build_library() {
-    local library=$build/library archive=$build/library/libkeel.a
+    local library=$build/library archive=target/staticlib/libkeel.a
     mkdir -p "$library"
     if [ ! -f "$archive" ] || [ "$(sources)" != "$(cat "$library/sources" 2>/dev/null)" ]; then
         rm -f "$library/sources"
-        (cd crates/keel_c && rt lib)
-        cp crates/keel_c/out/libkeel_c.a "$archive"
+        sh run.sh library
         sources >"$library/sources"
     fi
     build_over "$library" include "$archive"
