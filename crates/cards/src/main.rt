@@ -2,8 +2,6 @@
 // tables are of the old kind.
 #![tactic(auto)]
 
-ghost use Rattle.std.specs.Prelude.{◌≤◌, length};
-
 use memory::Format;
 use std::io::Read;
 use std::rt::Env;
@@ -114,27 +112,7 @@ fn show(rt: &impl Print, kind: u32, tables: &[u8], cards: &mut [u8], text: &mut 
     );
     let p = put_cards(text, 0, format.last, cards);
     let end = put_lists(text, p, octets::part(cards, lines, summary::LINES));
-    let _ = rt.write_all(octets::part(text, 0, end));
-}
-
-// Reads until a buffer is full or the input ends, and answers how many bytes it has put at the buffer's start.
-fn read_full(input: &mut impl Read, buf: &mut [u8]) -> usize
-    ensures { result ≤ length buf.old }
-{
-    let mut done = 0;
-    while done < buf.len() {
-        let n = input.read(&mut buf[done..]).unwrap_or(0);
-        if n == 0 {
-            return done;
-        }
-        done += n;
-    }
-    done
-}
-
-// Puts an argument at a buffer's start and answers its length: 0 where there is none, or it is longer than the buffer.
-fn arg(rt: &impl Env, i: usize, buf: &mut [u8]) -> usize {
-    rt.arg(i, buf).unwrap_or(0)
+    console::show(rt, octets::part(text, 0, end));
 }
 
 // The summary of what was read, or that it is not the tables wanted.
@@ -145,12 +123,12 @@ fn run(
     word: &mut [u8],
     text: &mut [u8],
 ) {
-    let n = read_full(input, tables);
+    let n = console::read_full(input, tables);
     if n != TABLES {
-        let _ = rt.write_all(b"REFUSED TABLES 16\n");
+        console::show(rt, b"REFUSED TABLES 16\n");
         return;
     }
-    let letters = arg(rt, 1, word);
+    let letters = console::arg(rt, 1, word);
     let kind = line::kind_named(octets::part(word, 0, letters));
     if kind == memory::FLIGHT {
         let mut cards = [0u8; SUMMARY];

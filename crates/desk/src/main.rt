@@ -6,7 +6,6 @@ ghost use Rattle.std.specs.Prelude.{◌<◌, ◌≤◌, length};
 
 use line::Line;
 use std::io::Read;
-use std::rt::Env;
 use unit::{Outcome, Unit};
 
 // The bytes of a piece of input, and those of text that can wait.
@@ -39,7 +38,7 @@ struct Piece {
 
 // Writes out the text that waits; the next goes to the start.
 fn write_out(rt: &impl Print, text: &[u8], at: usize) -> usize {
-    let _ = rt.write_all(octets::part(text, 0, at));
+    console::show(rt, octets::part(text, 0, at));
     0
 }
 
@@ -186,19 +185,12 @@ fn take_lines(
     desk
 }
 
-// Reads a piece of input: so many bytes, none where it has ended.
-fn read_some(input: &mut impl Read, piece: &mut [u8]) -> usize
-    ensures { result ≤ length piece.old }
-{
-    input.read(piece).unwrap_or(0)
-}
-
 // Reads on behind what is kept, and answers where the bytes end.
 fn read_behind(input: &mut impl Read, piece: &mut [u8], kept: usize) -> usize {
     if piece.len() < kept {
         return kept;
     }
-    let more = read_some(input, &mut piece[kept..]);
+    let more = console::read_some(input, &mut piece[kept..]);
     kept + more
 }
 
@@ -272,18 +264,13 @@ fn run(
     }
 }
 
-// Puts an argument at a buffer's start and answers its length: 0 where there is none, or it is longer than the buffer.
-fn arg(rt: &impl Env, i: usize, buf: &mut [u8]) -> usize {
-    rt.arg(i, buf).unwrap_or(0)
-}
-
 fn main(rt: HostRuntime) {
     let mut seqs = [0u8; Unit::SEQUENCE_TABLE];
     let mut lists = [0u8; Unit::LINE_LIST_TABLE];
     let mut out = [0u8; Unit::SEQUENCE_TABLE];
     let mut piece = [0u8; PIECE];
     let mut text = [0u8; PIECE];
-    let end = arg(&rt, 1, &mut piece);
+    let end = console::arg(&rt, 1, &mut piece);
     let kind = line::kind_named(octets::part(&piece, 0, end));
     let mut input = rt.stdin();
     run(

@@ -3,8 +3,6 @@
 // `same`, or the first after `old`, asks whether a pass still stands: standard input is then the dumps of then and those of now.
 #![tactic(auto)]
 
-ghost use Rattle.std.specs.Prelude.{◌≤◌, length};
-
 use line::Numeral;
 use memory::{Address, Format};
 use sequence::Fault;
@@ -218,7 +216,7 @@ fn next_line(rt: &impl Print, text: &[u8], end: usize) -> usize {
     if end < MANY {
         return end;
     }
-    let _ = rt.write_all(octets::part(text, 0, end));
+    console::show(rt, octets::part(text, 0, end));
     0
 }
 
@@ -231,7 +229,7 @@ fn show_all(rt: &impl Print, asked: Asked, tables: &[u8], word: &mut [u8], text:
         let at = next_line(rt, text, end);
         end = put_asked(text, at, asked, tables, octets::part(word, 0, digits));
     }
-    let _ = rt.write_all(octets::part(text, 0, end));
+    console::show(rt, octets::part(text, 0, end));
 }
 
 // How many arguments the program was started with, its own name among them. None is put anywhere: a longer one than the empty buffer is there
@@ -245,11 +243,6 @@ fn arg_count(rt: &impl Env) -> usize {
     usize::MAX
 }
 
-// Puts an argument at a buffer's start and answers its length: 0 where there is none, or it is longer than the buffer.
-fn arg(rt: &impl Env, i: usize, buf: &mut [u8]) -> usize {
-    rt.arg(i, buf).unwrap_or(0)
-}
-
 // What the arguments that name sequences ask for, each in its turn, shown.
 fn show_named(
     rt: &(impl Print + Env),
@@ -261,40 +254,25 @@ fn show_named(
     let count = arg_count(rt);
     let mut end = 0;
     for i in asked.first..count {
-        let letters = arg(rt, i, word);
+        let letters = console::arg(rt, i, word);
         let at = next_line(rt, text, end);
         end = put_asked(text, at, asked, tables, octets::part(word, 0, letters));
     }
-    let _ = rt.write_all(octets::part(text, 0, end));
+    console::show(rt, octets::part(text, 0, end));
 }
 
 // What the arguments before those that name sequences ask for.
 fn read_words(rt: &impl Env, word: &mut [u8]) -> Asked {
-    let end = arg(rt, 1, word);
+    let end = console::arg(rt, 1, word);
     let kind = line::kind_named(octets::part(word, 0, end));
     let first = if kind == memory::FLIGHT { 1 } else { 2 };
-    let end = arg(rt, first, word);
+    let end = console::arg(rt, first, word);
     let same = line::is_word(octets::part(word, 0, end), b"same");
     if !same {
         return Asked { kind, same, first };
     }
     let first = if kind == memory::FLIGHT { 2 } else { 3 };
     Asked { kind, same, first }
-}
-
-// Reads until a buffer is full or the input ends, and answers how many bytes it has put at the buffer's start.
-fn read_full(input: &mut impl Read, buf: &mut [u8]) -> usize
-    ensures { result ≤ length buf.old }
-{
-    let mut done = 0;
-    while done < buf.len() {
-        let n = input.read(&mut buf[done..]).unwrap_or(0);
-        if n == 0 {
-            return done;
-        }
-        done += n;
-    }
-    done
 }
 
 // What is asked for, or that the input is not the tables wanted.
@@ -305,11 +283,11 @@ fn run(
     word: &mut [u8],
     text: &mut [u8],
 ) {
-    let n = read_full(input, tables);
+    let n = console::read_full(input, tables);
     let asked = read_words(rt, word);
     let wanted = if asked.same { 2 * TABLES } else { TABLES };
     if n != wanted {
-        let _ = rt.write_all(b"REFUSED TABLES 16\n");
+        console::show(rt, b"REFUSED TABLES 16\n");
         return;
     }
     if arg_count(rt) <= asked.first {

@@ -9,26 +9,23 @@ use Rattle.survey.specs.Chain.{check_of}
 use Rattle.keel.specs.Report.{told_answer, told_report, check_answer, report_after}
 use Rattle.keel.proofs.keel_check.Goals as goal
 
-pub returns-then-report-ne-REPORT-clause-value : goal.returns-then-report-ne-REPORT-clause-value
+pub returns-then-report-ne-REPORT : goal.returns-then-report-ne-REPORT
 unfolding check_answer report_after told_answer told_report
-returns-then-report-ne-REPORT-clause-value c = let n = ne_eqb (length c.args.report.now) 152 c.if-report-ne-REPORT.true in (simp n)
+returns-then-report-ne-REPORT c =
+    let n = ne_eqb (length c.args.report.now) 152 c.if-report-ne-REPORT.true in
+    record {
+      value = simp n;
+      report_after = simp n;
+    }
 
-pub returns-then-report-ne-REPORT-clause-report_after : goal.returns-then-report-ne-REPORT-clause-report_after
-unfolding check_answer report_after told_answer told_report
-returns-then-report-ne-REPORT-clause-report_after c = let n = ne_eqb (length c.args.report.now) 152 c.if-report-ne-REPORT.true in (simp n)
-
-pub returns-clause-value : goal.returns-clause-value
+pub returns : goal.returns
 unfolding report_of check_answer report_after told_answer told_report
-returns-clause-value c = let a = c.args in
+returns c =
+    let a = c.args in
     let y = eq-eqb (length a.report.now) 152 c.if-report-ne-REPORT.false in
     let e = c.check.ensures in
     let f = c.tell.ensures in
-    (simp y (f.value ∙ ap (λ (r : Report). (ending_shown r.ending).code) e))
-
-pub returns-clause-report_after : goal.returns-clause-report_after
-unfolding report_of check_answer report_after told_answer told_report
-returns-clause-report_after c = let a = c.args in
-    let y = eq-eqb (length a.report.now) 152 c.if-report-ne-REPORT.false in
-    let e = c.check.ensures in
-    let f = c.tell.ensures in
-    (simp y (f.report_after (check_of (format_of a.kind) a.seqs.now a.lists.now a.number) e))
+    record {
+      value = simp y (f.value ∙ ap (λ (r : Report). (ending_shown r.ending).code) e);
+      report_after = simp y (f.report_after (check_of (format_of a.kind) a.seqs.now a.lists.now a.number) e);
+    }

@@ -3,22 +3,20 @@ use mathlib.Core.Path.{sym, ◌∙◌}
 use Rattle.line.specs.Reading.{line_of, packet_after}
 use Rattle.line.proofs.read_line.Goals as goal
 
-pub returns-then-is_packet-clause-value : goal.returns-then-is_packet-clause-value
+pub returns-then-is_packet : goal.returns-then-is_packet
 unfolding line_of packet_after
-returns-then-is_packet-clause-value c =
+returns-then-is_packet c =
     let p = sym c.is_packet.ensures ∙ c.if-is_packet.true in
-    (simp p)
+    record {
+      value = simp p;
+      packet_after = simp (p, c.read_packet.ensures);
+    }
 
-pub returns-then-is_packet-clause-packet_after : goal.returns-then-is_packet-clause-packet_after
+pub returns : goal.returns
 unfolding line_of packet_after
-returns-then-is_packet-clause-packet_after c =
-    let p = sym c.is_packet.ensures ∙ c.if-is_packet.true in
-    (simp (p, c.read_packet.ensures))
-
-pub returns-clause-value : goal.returns-clause-value
-unfolding line_of packet_after
-returns-clause-value c = let p = sym c.is_packet.ensures ∙ c.if-is_packet.false in (simp (p, c.steps.ensures))
-
-pub returns-clause-packet_after : goal.returns-clause-packet_after
-unfolding line_of packet_after
-returns-clause-packet_after c = let p = sym c.is_packet.ensures ∙ c.if-is_packet.false in (simp p)
+returns c =
+    let p = sym c.is_packet.ensures ∙ c.if-is_packet.false in
+    record {
+      value = simp (p, c.steps.ensures);
+      packet_after = simp p;
+    }

@@ -74,25 +74,22 @@ module _ (k : In-LineLists) where
   inside2 : Fits k.args.count (LineLists k.in-LineLists.at)
   inside2 = fits ranged2 (LineLists k.in-LineLists.at) k.in-LineLists.is
 
-pub returns-then-either-clause-value : goal.returns-then-either-clause-value
+pub returns-then-either : goal.returns-then-either
 unfolding update_code updated
-returns-then-either-clause-value c = let t = sym (either_is (goal.at.returns-then-either-clause-value c).After-either) ∙ c.if-either.true in (rw t)
+returns-then-either c =
+    let t = sym (either_is (goal.at.returns-then-either c).After-either) ∙ c.if-either.true in
+    record {
+      value = rw t;
+      summary_after = rw t;
+    }
 
-pub returns-then-either-clause-summary_after : goal.returns-then-either-clause-summary_after
+pub returns-then-count-gt-UPLINK : goal.returns-then-count-gt-UPLINK
 unfolding update_code updated
-returns-then-either-clause-summary_after c = let t = sym (either_is (goal.at.returns-then-either-clause-summary_after c).After-either) ∙ c.if-either.true in (rw t)
-
-pub returns-then-count-gt-UPLINK-clause-value : goal.returns-then-count-gt-UPLINK-clause-value
-unfolding update_code
-returns-then-count-gt-UPLINK-clause-value c =
-    let n = sym (either_is (goal.at.returns-then-count-gt-UPLINK-clause-value c).After-either) ∙ c.if-either.false in
-    by-test (is_wrong (range_at c.args.address c.args.count)) (λ t. rw (n, t)) (λ t. rw (n, t, lt-ltb _ _ c.if-count-gt-UPLINK.true))
-
-pub returns-then-count-gt-UPLINK-clause-summary_after : goal.returns-then-count-gt-UPLINK-clause-summary_after
-unfolding update_code updated
-returns-then-count-gt-UPLINK-clause-summary_after c =
-    let n = sym (either_is (goal.at.returns-then-count-gt-UPLINK-clause-summary_after c).After-either) ∙ c.if-either.false in
-    by-test (is_wrong (range_at c.args.address c.args.count)) (λ t. rw (n, t)) (λ t. rw (n, t, lt-ltb _ _ c.if-count-gt-UPLINK.true))
+returns-then-count-gt-UPLINK c =
+    let n = sym (either_is (goal.at.returns-then-count-gt-UPLINK c).After-either) ∙ c.if-either.false in
+    by-test (is_wrong (range_at c.args.address c.args.count))
+    (λ t. record { value = rw (n, t); summary_after = rw (n, t) })
+    (λ t. let over = lt-ltb _ _ c.if-count-gt-UPLINK.true in record { value = rw (n, t, over); summary_after = rw (n, t, over) })
 
 pub nonzero_div-first : goal.nonzero_div-first
 nonzero_div-first c = rw c.of-size.ensures (omega (arith, (fair (ranged (goal.at.nonzero_div-first c).In-Sequences)).room))
@@ -136,45 +133,31 @@ renew_users-requires c =
     let f = inside2 k in
     (sized (ranged2 k), omega (arith, f), omega (arith, f))
 
-pub returns-in-Wrong-clause-value : goal.returns-in-Wrong-clause-value
-unfolding update_code
-returns-in-Wrong-clause-value c =
-    let r = (goal.at.returns-in-Wrong-clause-value c).After-range_at in
-    rw (wrong r, range-is r Wrong c.in-Wrong.is)
-
-pub returns-in-Wrong-clause-summary_after : goal.returns-in-Wrong-clause-summary_after
+pub returns-in-Wrong : goal.returns-in-Wrong
 unfolding update_code updated
-returns-in-Wrong-clause-summary_after c =
-    let r = (goal.at.returns-in-Wrong-clause-summary_after c).After-range_at in
-    rw (wrong r, range-is r Wrong c.in-Wrong.is)
+returns-in-Wrong c =
+    let r = (goal.at.returns-in-Wrong c).After-range_at in
+    record {
+      value = rw (wrong r, range-is r Wrong c.in-Wrong.is);
+      summary_after = rw (wrong r, range-is r Wrong c.in-Wrong.is);
+    }
 
-pub returns-in-Sequences-clause-value : goal.returns-in-Sequences-clause-value
-unfolding update_code
-returns-in-Sequences-clause-value c =
-    let r = (goal.at.returns-in-Sequences-clause-value c).After-range_at in
-    rw (wrong r, range-is r (Sequences _) c.in-Sequences.is, le-ltb 128 c.args.count (short r))
-
-pub returns-in-Sequences-clause-summary_after : goal.returns-in-Sequences-clause-summary_after
+pub returns-in-Sequences : goal.returns-in-Sequences
 unfolding update_code updated
-returns-in-Sequences-clause-summary_after c =
-    let r = (goal.at.returns-in-Sequences-clause-summary_after c).After-range_at in
-    let a = c.args in
-    rw (wrong r, range-is r (Sequences c.in-Sequences.at) c.in-Sequences.is, le-ltb 128 a.count (short r))
-    (touched-so (format_of a.kind) a.seqs.now a.lists.now a.summary.now _ c.in-Sequences.at a.count (sized r) (rw c.of-size.ensures at c.renew_touched.ensures))
+returns-in-Sequences c =
+    let r = (goal.at.returns-in-Sequences c).After-range_at in
+    record {
+      value = rw (wrong r, range-is r (Sequences _) c.in-Sequences.is, le-ltb 128 c.args.count (short r));
+      summary_after = let a = c.args in rw (wrong r, range-is r (Sequences c.in-Sequences.at) c.in-Sequences.is, le-ltb 128 a.count (short r))
+          (touched-so (format_of a.kind) a.seqs.now a.lists.now a.summary.now _ c.in-Sequences.at a.count (sized r) (rw c.of-size.ensures at c.renew_touched.ensures));
+    }
 
-pub returns-in-LineLists-clause-value : goal.returns-in-LineLists-clause-value
-unfolding update_code
-returns-in-LineLists-clause-value c =
-    let r = (goal.at.returns-in-LineLists-clause-value c).After-range_at in
-    rw (wrong r, range-is r (LineLists _) c.in-LineLists.is, le-ltb 128 c.args.count (short r))
-
-pub returns-in-LineLists-clause-summary_after : goal.returns-in-LineLists-clause-summary_after
+pub returns-in-LineLists : goal.returns-in-LineLists
 unfolding update_code updated
-returns-in-LineLists-clause-summary_after c =
-    let r = (goal.at.returns-in-LineLists-clause-summary_after c).After-range_at in
-    let a = c.args in
-    let at = c.in-LineLists.at in
-    let f = inside2 (goal.at.returns-in-LineLists-clause-summary_after c).In-LineLists in
-    let u = short r in
-    rw (wrong r, range-is r (LineLists at) c.in-LineLists.is, le-ltb 128 a.count u)
-    (users-so (format_of a.kind) a.seqs.now a.lists.now a.summary.now _ at a.count (at / 164) ((at + a.count - 1) / 164) (sized r) refl refl (omega (arith, f)) (omega (arith, f, u)) (omega (arith, f)) c.renew_users.ensures)
+returns-in-LineLists c =
+    let r = (goal.at.returns-in-LineLists c).After-range_at in
+    record {
+      value = rw (wrong r, range-is r (LineLists _) c.in-LineLists.is, le-ltb 128 c.args.count (short r));
+      summary_after = let a = c.args in let at = c.in-LineLists.at in let f = inside2 (goal.at.returns-in-LineLists c).In-LineLists in let u = short r in rw (wrong r, range-is r (LineLists at) c.in-LineLists.is, le-ltb 128 a.count u)
+          (users-so (format_of a.kind) a.seqs.now a.lists.now a.summary.now _ at a.count (at / 164) ((at + a.count - 1) / 164) (sized r) refl refl (omega (arith, f)) (omega (arith, f, u)) (omega (arith, f)) c.renew_users.ensures);
+    }

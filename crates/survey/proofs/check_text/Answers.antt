@@ -20,8 +20,10 @@ returns-in-Bad c =
     let w =
     one-unfit (env (goal.at.returns-in-Bad c).Start) (room (goal.at.returns-in-Bad c).Start) c.args.text.now _ c.part-entry.ensures _ c.header_of.ensures _ c.in-Bad.is in record { found_value = w.0; tested_value = w.1 }
 
-pub returns-in-Repeats-clause-found_value : goal.returns-in-Repeats-clause-found_value
-returns-in-Repeats-clause-found_value c = let q = c.in-Repeats.is in (one-rounds (env (goal.at.returns-in-Repeats-clause-found_value c).Start) (room (goal.at.returns-in-Repeats-clause-found_value c).Start) c.args.text.now _ c.part-entry.ensures _ c.header_of.ensures _ _ _ q c.walk-round.ensures.found_value c.all_rounds.ensures)
-
-pub returns-in-Repeats-clause-tested_value : goal.returns-in-Repeats-clause-tested_value
-returns-in-Repeats-clause-tested_value c = let q = c.in-Repeats.is in (one-tested (env (goal.at.returns-in-Repeats-clause-tested_value c).Start) (room (goal.at.returns-in-Repeats-clause-tested_value c).Start) c.args.text.now _ c.part-entry.ensures _ c.header_of.ensures _ _ q c.walk-round.ensures.tested_value)
+pub returns-in-Repeats : goal.returns-in-Repeats
+returns-in-Repeats c =
+    let q = c.in-Repeats.is in
+    record {
+      found_value = one-rounds (env (goal.at.returns-in-Repeats c).Start) (room (goal.at.returns-in-Repeats c).Start) c.args.text.now _ c.part-entry.ensures _ c.header_of.ensures _ _ _ q c.walk-round.ensures.found_value c.all_rounds.ensures;
+      tested_value = one-tested (env (goal.at.returns-in-Repeats c).Start) (room (goal.at.returns-in-Repeats c).Start) c.args.text.now _ c.part-entry.ensures _ c.header_of.ensures _ _ q c.walk-round.ensures.tested_value;
+    }

@@ -29,26 +29,29 @@ module _ (j : After-judge) where
 pub loop-left-init : goal.loop-left-init
 loop-left-init c = going_start _ _ (le_trans c.requires.1 (fair-of c.args.format c.requires.0).size)
 
-pub returns-in_default-clause-found_value : goal.returns-in_default-clause-found_value
-returns-in_default-clause-found_value c = let e = c.fails.ensures in let l = c.loop-left in let (w, b) = going-outside _ _ l.left l.round l.invariant (le_trans c.requires.1 (placed-outside c.args.format _ _ c.of.ensures c.in_default.is)) in
-    (e.0 ∙ w)
-
-pub returns-in_default-clause-tested_value : goal.returns-in_default-clause-tested_value
-returns-in_default-clause-tested_value c = let e = c.fails.ensures in let l = c.loop-left in let (w, b) = going-outside _ _ l.left l.round l.invariant (le_trans c.requires.1 (placed-outside c.args.format _ _ c.of.ensures c.in_default.is)) in
-    (e.1 ∙ b)
+pub returns-in_default : goal.returns-in_default
+returns-in_default c =
+    let e = c.fails.ensures in
+    let l = c.loop-left in
+    let (w, b) = going-outside _ _ l.left l.round l.invariant (le_trans c.requires.1 (placed-outside c.args.format _ _ c.of.ensures c.in_default.is)) in
+    record {
+      found_value = e.0 ∙ w;
+      tested_value = e.1 ∙ b;
+    }
 
 pub refused-requires : goal.refused-requires
 refused-requires c = few_bits (turn (goal.at.refused-requires c).After-judge) _ refl
 
-pub returns-in-Refused-clause-found_value : goal.returns-in-Refused-clause-found_value
+pub returns-in-Refused : goal.returns-in-Refused
 unfolding tested_past
-returns-in-Refused-clause-found_value c = let t = turn (goal.at.returns-in-Refused-clause-found_value c).After-judge in let e = c.refused.ensures in let is = c.in-Refused.is in
-    (e.0 ∙ comes-whole t (Refused _) is)
-
-pub returns-in-Refused-clause-tested_value : goal.returns-in-Refused-clause-tested_value
-unfolding tested_past
-returns-in-Refused-clause-tested_value c = let t = turn (goal.at.returns-in-Refused-clause-tested_value c).After-judge in let e = c.refused.ensures in let is = c.in-Refused.is in
-    (e.1 ∙ rw t.here.1 (tested-refused t (Refused _) is refl))
+returns-in-Refused c =
+    let t = turn (goal.at.returns-in-Refused c).After-judge in
+    let e = c.refused.ensures in
+    let is = c.in-Refused.is in
+    record {
+      found_value = e.0 ∙ comes-whole t (Refused _) is;
+      tested_value = e.1 ∙ rw t.here.1 (tested-refused t (Refused _) is refl);
+    }
 
 pub opens-round-requires : goal.opens-round-requires
 opens-round-requires c = let t = turn (goal.at.opens-round-requires c).After-judge in let is = c.in-Opens.is in let s = told t Opens is in
@@ -65,25 +68,25 @@ loops-round-requires c = let t = turn (goal.at.loops-round-requires c).After-jud
 pub past-round-requires-in-Waits : goal.past-round-requires-in-Waits
 past-round-requires-in-Waits c = let t = turn (goal.at.past-round-requires-in-Waits c).After-judge in let s = told t Waits c.in-Waits.is in going-fits t _ _ 0 (omega arith) (rw c.pause.ensures (pause-most c.loop-left.round.held)) (omega arith)
 
-pub returns-in-Calls-clause-found_value : goal.returns-in-Calls-clause-found_value
+pub returns-in-Calls : goal.returns-in-Calls
 unfolding tested_past
-returns-in-Calls-clause-found_value c = let t = turn (goal.at.returns-in-Calls-clause-found_value c).After-judge in let is = c.in-Calls.is in
-    (c.closes.ensures.0 ∙ comes-whole t (Calls _) is)
+returns-in-Calls c =
+    let t = turn (goal.at.returns-in-Calls c).After-judge in
+    let is = c.in-Calls.is in
+    record {
+      found_value = c.closes.ensures.0 ∙ comes-whole t (Calls _) is;
+      tested_value = c.closes.ensures.1 ∙ tested-end t (Calls _) is refl (tells-tests t (Calls _) is);
+    }
 
-pub returns-in-Calls-clause-tested_value : goal.returns-in-Calls-clause-tested_value
+pub returns-in-Ends : goal.returns-in-Ends
 unfolding tested_past
-returns-in-Calls-clause-tested_value c = let t = turn (goal.at.returns-in-Calls-clause-tested_value c).After-judge in let is = c.in-Calls.is in
-    (c.closes.ensures.1 ∙ tested-end t (Calls _) is refl (tells-tests t (Calls _) is))
-
-pub returns-in-Ends-clause-found_value : goal.returns-in-Ends-clause-found_value
-unfolding tested_past
-returns-in-Ends-clause-found_value c = let t = turn (goal.at.returns-in-Ends-clause-found_value c).After-judge in let is = c.in-Ends.is in
-    (c.closes-in-Ends.ensures.0 ∙ comes-whole t Ends is)
-
-pub returns-in-Ends-clause-tested_value : goal.returns-in-Ends-clause-tested_value
-unfolding tested_past
-returns-in-Ends-clause-tested_value c = let t = turn (goal.at.returns-in-Ends-clause-tested_value c).After-judge in let is = c.in-Ends.is in
-    (c.closes-in-Ends.ensures.1 ∙ tested-end t Ends is refl (tells-tests t Ends is))
+returns-in-Ends c =
+    let t = turn (goal.at.returns-in-Ends c).After-judge in
+    let is = c.in-Ends.is in
+    record {
+      found_value = c.closes-in-Ends.ensures.0 ∙ comes-whole t Ends is;
+      tested_value = c.closes-in-Ends.ensures.1 ∙ tested-end t Ends is refl (tells-tests t Ends is);
+    }
 
 pub loop-left-preserved : goal.loop-left-preserved
 loop-left-preserved c = let t = turn (goal.at.loop-left-preserved c).After-judge in
@@ -94,8 +97,12 @@ loop-left-preserved c = let t = turn (goal.at.loop-left-preserved c).After-judge
       | in-Waits w ↦ going_on t Waits w.in-Waits.is _ (w.round-is ∙ (rw w.pause.ensures at w.past-round-in-Waits.ensures)) tt refl
     ]
 
-pub returns-clause-found_value : goal.returns-clause-found_value
-returns-clause-found_value c = let l = c.loop-left in let e = c.fails-2.ensures in let (w, b) = going-none _ _ l.left l.round l.invariant (omega arith) in (e.0 ∙ w)
-
-pub returns-clause-tested_value : goal.returns-clause-tested_value
-returns-clause-tested_value c = let l = c.loop-left in let e = c.fails-2.ensures in let (w, b) = going-none _ _ l.left l.round l.invariant (omega arith) in (e.1 ∙ b)
+pub returns : goal.returns
+returns c =
+    let l = c.loop-left in
+    let e = c.fails-2.ensures in
+    let (w, b) = going-none _ _ l.left l.round l.invariant (omega arith) in
+    record {
+      found_value = e.0 ∙ w;
+      tested_value = e.1 ∙ b;
+    }

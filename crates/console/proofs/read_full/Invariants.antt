@@ -1,6 +1,6 @@
 -- What was read lies within the buffer; the bytes left fall.
 use Rattle.std.proofs.Common.{length, ◌-◌, ◌≤◌}
-use Rattle.tablecheck.proofs.read_full.Given as goal
+use Rattle.console.proofs.read_full.Given as goal
 
 abbrev pub invariant-loop-done : goal.invariant-loop-done
 invariant-loop-done g l = l.done ≤ length l.buf
