@@ -2,7 +2,8 @@
 // input, and of a write that fails nothing is said.
 #![tactic(auto)]
 
-ghost use Rattle.std.specs.Prelude.{◌≤◌, length};
+ghost use Rattle.std.specs.Prelude.{◌≤◌, length, take};
+ghost use Rattle.std.specs.Io.KnownBytes.{Consumes};
 
 use std::io::Read;
 use std::rt::Env;
@@ -14,16 +15,18 @@ pub fn arg(rt: &impl Env, i: usize, buf: &mut [u8]) -> usize
     rt.arg(i, buf).unwrap_or(0)
 }
 
-// Reads a piece of input into a buffer's start: so many bytes, none where it has ended.
-pub fn read_some(input: &mut impl Read, buf: &mut [u8]) -> usize
-    ensures { result ≤ length buf.old }
+// Reads a piece of input into a buffer's start: the next bytes, so many of them, none where it has ended.
+pub fn read_some<R: Read>(input: &mut R, buf: &mut [u8]) -> usize
+    ensures within { result ≤ length buf.old }
+    ensures bytes { Consumes (R.remaining input.old) (R.remaining input.new) (take result buf.new) }
 {
     input.read(buf).unwrap_or(0)
 }
 
-// Reads until a buffer is full or the input ends, and answers how many bytes it has put at the buffer's start.
-pub fn read_full(input: &mut impl Read, buf: &mut [u8]) -> usize
-    ensures { result ≤ length buf.old }
+// Reads until a buffer is full or the input ends, and answers how many of the next bytes it has put at the buffer's start.
+pub fn read_full<R: Read>(input: &mut R, buf: &mut [u8]) -> usize
+    ensures within { result ≤ length buf.old }
+    ensures bytes { Consumes (R.remaining input.old) (R.remaining input.new) (take result buf.new) }
 {
     let mut done = 0;
     while done < buf.len() {

@@ -1,9 +1,12 @@
--- What was read lies within the buffer; the bytes left fall.
-use Rattle.std.proofs.Common.{length, ◌-◌, ◌≤◌}
+-- What was read lies at the buffer's start, as the input gave it; the bytes left fall.
+use Rattle.std.proofs.Common.{length, take, ◌-◌, ◌≤◌}
+use Rattle.std.specs.Io.KnownBytes.{Consumes}
 use Rattle.console.proofs.read_full.Given as goal
 
 abbrev pub invariant-loop-done : goal.invariant-loop-done
-invariant-loop-done g l = l.done ≤ length l.buf
+invariant-loop-done g l =
+    l.done ≤ length l.buf
+    × Consumes (g.R.Read.remaining l.initial.input) (g.R.Read.remaining l.input) (take l.done l.buf)
 
 abbrev pub decreases-loop-done : goal.decreases-loop-done
 decreases-loop-done g l = length l.buf - l.done
