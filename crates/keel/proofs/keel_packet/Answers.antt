@@ -6,9 +6,9 @@ use Rattle.keel.proofs.keel_packet.Goals as goal
 
 pub returns-then-held-ne0 : goal.returns-then-held-ne0
 returns-then-held-ne0 c =
-    let w =
     let a = c.args in
-    held_back (format_of a.kind) a.state.now a.time a.seqs.now a.lists.now a.out.now a.packet.now _ _ c.lent_wrong.ensures c.held_code-held.ensures c.if-held-ne0.true in record { value = w.0; state_after = w.1.0; seqs_after = w.1.1.0; lists_after = w.1.1.1.0; out_after = w.1.1.1.1 }
+    let w = held_back (format_of a.kind) a.state.now a.time a.seqs.now a.lists.now a.out.now a.packet.now _ _ c.lent_wrong.ensures c.held_code-held.ensures c.if-held-ne0.true in
+    record { value = w.0; state_after = w.1.0; seqs_after = w.1.1.0; lists_after = w.1.1.1.0; out_after = w.1.1.1.1 }
 
 pub answer_of-requires : goal.answer_of-requires
 answer_of-requires c = let a = c.args in

@@ -25,9 +25,9 @@ returns-then-out_of_range c =
 
 pub returns-then-not-unit : goal.returns-then-not-unit
 returns-then-not-unit c =
-    let w =
     let a = c.args in
-    idles (format_of a.kind) a.state.now a.seqs.now a.lists.now _ _ c.tables_wrong.ensures c.held_code-held.ensures c.if-held-ne0.false c.unit_of-unit.result (whole a.state.now _ _ c.runner_of.ensures c.unit_of-unit.ensures) (not-true c.unit_of-unit.result.runner.running c.if-not-unit.true) (λ i. (c.slice_known-1.given i).fits) (sym (rw c.of.ensures at c.out_of_range.ensures) ∙ c.if-out_of_range.false) in record { value = w.0; state_after = w.1 }
+    let w = idles (format_of a.kind) a.state.now a.seqs.now a.lists.now _ _ c.tables_wrong.ensures c.held_code-held.ensures c.if-held-ne0.false c.unit_of-unit.result (whole a.state.now _ _ c.runner_of.ensures c.unit_of-unit.ensures) (not-true c.unit_of-unit.result.runner.running c.if-not-unit.true) (λ i. (c.slice_known-1.given i).fits) (sym (rw c.of.ensures at c.out_of_range.ensures) ∙ c.if-out_of_range.false) in
+    record { value = w.0; state_after = w.1 }
 
 pub returns-in-Denied : goal.returns-in-Denied
 returns-in-Denied c =

@@ -17,8 +17,8 @@ all_rounds-requires c = round-most (env (goal.at.all_rounds-requires c).Start) (
 
 pub returns-in-Bad : goal.returns-in-Bad
 returns-in-Bad c =
-    let w =
-    one-unfit (env (goal.at.returns-in-Bad c).Start) (room (goal.at.returns-in-Bad c).Start) c.args.text.now _ c.part-entry.ensures _ c.header_of.ensures _ c.in-Bad.is in record { found_value = w.0; tested_value = w.1 }
+    let w = one-unfit (env (goal.at.returns-in-Bad c).Start) (room (goal.at.returns-in-Bad c).Start) c.args.text.now _ c.part-entry.ensures _ c.header_of.ensures _ c.in-Bad.is in
+    record { found_value = w.0; tested_value = w.1 }
 
 pub returns-in-Repeats : goal.returns-in-Repeats
 returns-in-Repeats c =

@@ -7,9 +7,9 @@ use Rattle.unit.proofs.Unit.packet.Goals as goal
 
 pub returns-then-code-ne0 : goal.returns-then-code-ne0
 returns-then-code-ne0 c =
-    let w =
     let a = c.args in
-    refuses (format_of a.kind) a.self a.time a.seqs.now a.lists.now a.out.now a.pkt.now _ c.refusal-code.ensures _ c.if-code-ne0.true c.refused-unit.ensures in record { value = w.0; seqs_after = w.1.0; lists_after = w.1.1.0; out_after = w.1.1.1 }
+    let w = refuses (format_of a.kind) a.self a.time a.seqs.now a.lists.now a.out.now a.pkt.now _ c.refusal-code.ensures _ c.if-code-ne0.true c.refused-unit.ensures in
+    record { value = w.0; seqs_after = w.1.0; lists_after = w.1.1.0; out_after = w.1.1.1 }
 
 pub reply-size-requires : goal.reply-size-requires
 reply-size-requires c =
@@ -18,7 +18,6 @@ reply-size-requires c =
 
 pub returns : goal.returns
 returns c =
-    let w =
     let a = c.args in
-    obeys (format_of a.kind) a.self a.time a.seqs.now a.lists.now a.out.now a.pkt.now _ c.refusal-code.ensures c.telecommand_of-command.result _ _ _ _ _ c.if-code-ne0.false (c.telecommand_of-command.ensures ∙ ap telecommand_of c.byte.ensures)
-    (c.reply-size.ensures.value, c.reply-size.ensures.out_after) (c.uplink.ensures.seqs_after, c.uplink.ensures.lists_after) c.obeyed-unit.ensures in record { value = w.0; seqs_after = w.1.0; lists_after = w.1.1.0; out_after = w.1.1.1 }
+    let w = obeys (format_of a.kind) a.self a.time a.seqs.now a.lists.now a.out.now a.pkt.now _ c.refusal-code.ensures c.telecommand_of-command.result _ _ _ _ _ c.if-code-ne0.false (c.telecommand_of-command.ensures ∙ ap telecommand_of c.byte.ensures) (c.reply-size.ensures.value, c.reply-size.ensures.out_after) (c.uplink.ensures.seqs_after, c.uplink.ensures.lists_after) c.obeyed-unit.ensures in
+    record { value = w.0; seqs_after = w.1.0; lists_after = w.1.1.0; out_after = w.1.1.1 }

@@ -15,22 +15,16 @@ use Rattle.unit.proofs.Unit.reply.Goals as goal
 pub returns-in-Status : goal.returns-in-Status
 unfolding status_of effect obeyed_unit reply
 returns-in-Status c =
-    let w =
     let a = c.args in
-    replied _ _ a.self a.time a.seqs.now a.lists.now a.out.now a.pkt.now _ _ _
-    c.in-Status.is
-    (ap (λ (x : Unit). status_of x a.time) c.asked-unit.ensures)
-    (status-replied c.asked-unit.result a.time a.out.now _ c.requires c.put_status.ensures) in record { value = w.0; out_after = w.1 }
+    let w = replied _ _ a.self a.time a.seqs.now a.lists.now a.out.now a.pkt.now _ _ _ c.in-Status.is (ap (λ (x : Unit). status_of x a.time) c.asked-unit.ensures) (status-replied c.asked-unit.result a.time a.out.now _ c.requires c.put_status.ensures) in
+    record { value = w.0; out_after = w.1 }
 
 pub returns-in-Dump : goal.returns-in-Dump
 unfolding reply
 returns-in-Dump c =
     let a = c.args in
-    let w =
-    replied _ _ a.self a.time a.seqs.now a.lists.now a.out.now a.pkt.now _ _ _
-    c.in-Dump.is
-    c.dumped-part.ensures
-    (dump-replied a.seqs.now a.lists.now a.pkt.now _ _ _ c.dumped-part.ensures c.requires c.write.ensures) in record { value = w.0; out_after = w.1 }
+    let w = replied _ _ a.self a.time a.seqs.now a.lists.now a.out.now a.pkt.now _ _ _ c.in-Dump.is c.dumped-part.ensures (dump-replied a.seqs.now a.lists.now a.pkt.now _ _ _ c.dumped-part.ensures c.requires c.write.ensures) in
+    record { value = w.0; out_after = w.1 }
 
 -- a command that is not another is none of its kind
 is-other : (c k : Telecommand) → (k ≡ c → ⊥) → is c k ≡ false
