@@ -216,7 +216,7 @@ delays text s time stands =
     (past_is text s (Delay time) stands)
 
 -- ── an exposure is made only where the set has room
-set-small : (raster : RasterWords) → set_of raster ≤ 8
+pub set-small : (raster : RasterWords) → set_of raster ≤ 8
 set-small raster = by-test (leb raster.exposures 8) (λ e. rw e (leb-true raster.exposures 8 e)) (λ e. rw e (omega arith))
 
 open-count : (none : Bool) (placed : Placed) (r : Place) (c n : ℕ) (raster : OpenRaster) → Open r c n ≡ cond none Shut (open_by placed raster) → c ≡ raster.count

@@ -15,7 +15,7 @@ use Rattle.telecommand.specs.Packet.{telecommand_of, writes_to}
 use Rattle.unit.specs.Packet.{code_of}
 use Rattle.unit.specs.Answer.{with_arrival, obeyed_unit, reply, unit_after, reply_of, answer_of, seqs_after, lists_after, out_after}
 use Rattle.promises.specs.Library.{ours}
-use Rattle.promises.specs.Sent.{Sent, code, unit_left, seqs_left, lists_left, bc1, TablesKept, NoAnswer, Logged}
+use Rattle.promises.specs.Sent.{Sent, unit_left, seqs_left, lists_left, bc1, TablesKept, NoAnswer, Logged}
 use Rattle.promises.specs.Demand2.{Lent, InRange, Wanted, Obeyed, Answered, OnlyLogged}
 use Rattle.promises.proofs.Packets.Needs.{obeyed-exactly}
 

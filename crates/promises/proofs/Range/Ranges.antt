@@ -30,7 +30,8 @@ use Rattle.runner.specs.Judge.{repeat_begun, set_of, judge}
 use Rattle.runner.specs.Step.{to, open_by, open_of, past, aborted, entered_by, entered, begun, advances, exposed_at, exposed, looped, delayed, another, called, ended, act, step_in, step_of}
 use Rattle.promises.specs.Range.{RunnerInRange, StepInRange}
 use Rattle.promises.specs.Runs.{after_steps}
-use Rattle.promises.proofs.Text.Sound.{Sound, set-most}
+use Rattle.runner.proofs.Laws.{set-small}
+use Rattle.promises.proofs.Text.Sound.{Sound}
 use Rattle.promises.proofs.Text.Rules.{View, refused, opens, opens-again, exposes, loops, waits, calls, ends, view, size-some, header-case, place_inside}
 use Rattle.promises.proofs.Text.Targets.{target-size}
 
@@ -92,7 +93,7 @@ module _ (E : Env) (room : 4 < E.format.size) (seqs : List ℕ) (s : Runner) (ok
   unfolding exposed
   exposed-range r t k c =
       let raster = raster_at text r.0 in
-      let l : s.raster.count < 8 = omega (arith, set-most raster) in
+      let l : s.raster.count < 8 = omega (arith, set-small raster) in
       choose (advances raster s) _ _
       (λ a. choose (ltb 2400 (s.mirror + raster.step)) _ _
       (λ h. abort-range (fault 14 s.place) (omega arith) ok.place)

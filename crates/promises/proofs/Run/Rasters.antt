@@ -19,7 +19,7 @@ use Rattle.sequence.proofs.Paths.{start-reaches}
 use Rattle.sequence.specs.Env.{Env, text_of}
 use Rattle.runner.specs.declared.OpenRaster.{OpenRaster}
 use Rattle.runner.specs.declared.Runner.{Runner}
-use Rattle.runner.specs.declared.Event.TheVariants.{Raster, Exp}
+use Rattle.runner.specs.declared.Event.TheVariants.{Exp}
 use Rattle.runner.specs.declared.Opened.TheVariants.{Open}
 use Rattle.runner.specs.declared.Act.TheVariants.{Exposes}
 use Rattle.runner.specs.Judge.{set_of, judge}

@@ -16,7 +16,7 @@ use Rattle.runner.specs.declared.Runner.{Runner}
 use Rattle.runner.specs.declared.Sight.{Sight}
 use Rattle.runner.specs.declared.Event.TheVariants.{Raster, Abort}
 use Rattle.runner.specs.declared.Opened.TheVariants.{Shut}
-use Rattle.runner.specs.Judge.{set_of, judge}
+use Rattle.runner.specs.Judge.{judge}
 use Rattle.runner.specs.Step.{step_of}
 use Rattle.survey.specs.declared.Item.{Item}
 use Rattle.survey.specs.declared.Item.TheVariants.{Pause, Scan}

@@ -10,7 +10,7 @@ use Rattle.runner.specs.declared.OpenRaster.{OpenRaster}
 use Rattle.runner.specs.declared.Runner.{Runner}
 use Rattle.survey.specs.declared.Item.{Item}
 use Rattle.survey.specs.declared.Closing.{Closing}
-use Rattle.survey.specs.Walk.{Finding, passes, faults, rounds, check_one}
+use Rattle.survey.specs.Walk.{Finding, passes, faults, check_one}
 use Rattle.promises.specs.Runs.{Run, done, more, Aborts, AtDoor}
 use Rattle.promises.proofs.Run.Steps.{door, door-is, step-enters, step-barred}
 use Rattle.promises.proofs.Run.Sights.{end_of, sequence_sights}

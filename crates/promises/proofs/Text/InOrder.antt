@@ -16,7 +16,6 @@ use Rattle.sequence.specs.declared.Command.TheVariants.{RunRaster, Expose, LoopB
 use Rattle.memory.specs.Memory.{place_at}
 use Rattle.sequence.specs.declared.Header.TheVariants.{Repeats, Bad}
 use Rattle.sequence.specs.Text.{fault, header_rows, header_place, header_by, header_of, command_at, size_of, size_at}
-use Rattle.sequence.specs.Raster.{raster_at}
 use Rattle.sequence.specs.Env.{Env}
 use Rattle.runner.specs.declared.Opened.{Opened}
 use Rattle.runner.specs.declared.Opened.TheVariants.{Shut, Open}

@@ -29,7 +29,7 @@ use Rattle.runner.specs.declared.Opened.{Opened}
 use Rattle.runner.specs.declared.Opened.TheVariants.{Shut, Open}
 use Rattle.runner.specs.declared.Act.{Act}
 use Rattle.runner.specs.declared.Act.TheVariants.{Refused, Opens, Exposes, Loops, Waits, Calls, Ends}
-use Rattle.runner.specs.Judge.{repeat_begun, set_of, full, path_rows, raster_rows, run_rows, expose_rows, loop_rows, close_rows, unless, judged, judge}
+use Rattle.runner.specs.Judge.{set_of, full, path_rows, raster_rows, run_rows, expose_rows, loop_rows, close_rows, unless, judged, judge}
 use Rattle.runner.proofs.Exactly.{run-raster-exactly}
 use Rattle.promises.proofs.Text.Sound.{code-small, by_first, by_rows, Sound, sound, stay, rows-again}
 

@@ -87,13 +87,6 @@ module _ (E : Env) (raster : RasterWords) (begun : ℕ) (none : NoneHolds (raste
         stays = λ k l. none-strays raster raster.repeats k stay.0 l;
       }
 
-pub set-most : (raster : RasterWords) → set_of raster ≤ 8
-set-most raster = go (leb raster.exposures 8) refl
-  where
-    go : (b : Bool) → leb raster.exposures 8 ≡ b → cond b raster.exposures 8 ≤ 8
-    go true e = leb-true raster.exposures 8 e
-    go false e = omega arith
-
 pub set_is : {raster : RasterWords} → Sound raster → set_of raster ≡ raster.exposures
 set_is {raster} g = rw (le-leb raster.exposures 8 g.most)
 

@@ -1,7 +1,7 @@
 -- The number so far is that of the bytes read, and has no more of them.
 use Prim.Native.Nat.{◌+◌}
 use native.Mathlib.Omega.{arith}
-use Rattle.summary.proofs.Numbers.{number-room}
+use Rattle.octets.proofs.Laws.{number-room}
 use Rattle.summary.proofs.number.Goals as goal
 
 pub overflow_mul-n : goal.overflow_mul-n
