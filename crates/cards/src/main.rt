@@ -2,6 +2,7 @@
 // tables are of the old kind.
 #![tactic(auto)]
 
+use console::Page;
 use memory::Format;
 use std::io::Read;
 use std::rt::Env;
@@ -17,102 +18,63 @@ const OLD_SUMMARY: usize = 64 * summary::CARD + summary::LINES;
 const WORD: usize = 65536;
 
 // How a sequence ends, as its card has it: at its fault's place, with its code; at its end; or with a call, and of which sequence.
-fn put_ending(text: &mut [u8], at: usize, card: &[u8]) -> usize {
+fn put_ending(page: &mut Page, card: &[u8]) {
     if octets::byte(card, 0) != 0 {
-        let mut p = line::put_word(text, at, b" FAULT");
-        p = line::put_blank_number(text, p, octets::byte(card, 1) as u64);
-        p = line::put_blank_number(text, p, octets::byte(card, 2) as u64);
-        return line::put_word(text, p, b" NONE -");
+        page.put_word(b" FAULT");
+        page.put_numbers(octets::part(card, 1, 2));
+        page.put_word(b" NONE -");
+    } else if octets::byte(card, 3) == 1 {
+        page.put_word(b" PASS END -");
+    } else {
+        page.put_word(b" PASS CALL");
+        page.put_numbers(octets::part(card, 4, 1));
     }
-    if octets::byte(card, 3) == 1 {
-        return line::put_word(text, at, b" PASS END -");
+}
+
+// The line of a sequence's card: how it ends, its steps, its exposures and the line lists that it uses, of which list 0 is the most
+// significant bit.
+fn put_card(page: &mut Page, n: u8, card: &[u8]) {
+    page.put_word(b"CARD");
+    page.put_number(u64::from(n));
+    put_ending(page, card);
+    page.put_number(octets::number(octets::part(card, 8, 8)));
+    page.put_number(octets::number(octets::part(card, 16, 8)));
+    page.put(b' ');
+    page.put_bits(octets::number(octets::part(card, 24, 8)));
+    page.put(b'\n');
+}
+
+// The lines of the cards of every sequence in order, by the last one's number.
+fn put_cards(page: &mut Page, last: u8, cards: &[u8]) {
+    for n in 0..=last {
+        let at = usize::from(n) * summary::CARD;
+        put_card(page, n, octets::part(cards, at, summary::CARD));
     }
-    let p = line::put_word(text, at, b" PASS CALL");
-    line::put_blank_number(text, p, octets::byte(card, 4) as u64)
 }
 
-// A blank and the number in eight bytes of a card.
-fn put_eight(text: &mut [u8], at: usize, card: &[u8], place: usize) -> usize {
-    line::put_blank_number(text, at, octets::number(octets::part(card, place, 8)))
-}
-
-// A card's steps, its exposures and the line lists that it uses, of which list 0 is the most significant bit.
-fn put_totals(text: &mut [u8], at: usize, card: &[u8]) -> usize {
-    let mut p = put_eight(text, at, card, 8);
-    p = put_eight(text, p, card, 16);
-    p = line::put(text, p, b' ');
-    line::put_bits(text, p, octets::number(octets::part(card, 24, 8)), 0)
-}
-
-// The line of a sequence's card.
-fn put_card(text: &mut [u8], at: usize, n: usize, card: &[u8]) -> usize {
-    let mut p = line::put_word(text, at, b"CARD");
-    p = line::put_blank_number(text, p, n as u64);
-    p = put_ending(text, p, card);
-    p = put_totals(text, p, card);
-    line::put(text, p, b'\n')
-}
-
-// What a line list's card says: good, with its marks, or bad, and for what reason.
-fn put_tested(text: &mut [u8], at: usize, card: &[u8]) -> usize {
-    let reason = octets::byte(card, 0);
-    if reason == 0 {
-        let p = line::put_word(text, at, b" GOOD ");
-        return line::put_marks(text, p, octets::byte(card, 2));
+// The lines of the cards of every line list in order.
+fn put_lists(page: &mut Page, cards: &[u8]) {
+    for k in 0..=memory::LAST_LINE_LIST {
+        let at = usize::from(k) * sequence::CARD;
+        page.put_list(k, octets::part(cards, at, sequence::CARD), b" BAD ");
     }
-    let p = line::put_word(text, at, b" BAD ");
-    line::put_reason(text, p, reason, octets::byte(card, 1))
-}
-
-// The line of a line list's card.
-fn put_list(text: &mut [u8], at: usize, k: usize, card: &[u8]) -> usize {
-    let mut p = line::put_word(text, at, b"LIST");
-    p = line::put_blank_number(text, p, k as u64);
-    p = put_tested(text, p, card);
-    line::put(text, p, b'\n')
-}
-
-// Every sequence's card in order, by the last one's number.
-fn put_cards(text: &mut [u8], at: usize, last: u8, cards: &[u8]) -> usize {
-    let mut p = at;
-    for n in 0..=last as usize {
-        p = put_card(
-            text,
-            p,
-            n,
-            octets::part(cards, n * summary::CARD, summary::CARD),
-        );
-    }
-    p
-}
-
-// Every line list's card in order.
-fn put_lists(text: &mut [u8], at: usize, cards: &[u8]) -> usize {
-    let mut p = at;
-    for k in 0..memory::LINE_LISTS {
-        p = put_list(
-            text,
-            p,
-            k,
-            octets::part(cards, k * sequence::CARD, sequence::CARD),
-        );
-    }
-    p
 }
 
 // The summary of two dumps, in the room lent for it, a line for each card.
-fn show(rt: &impl Print, kind: u32, tables: &[u8], cards: &mut [u8], text: &mut [u8]) {
+fn show(rt: &impl Print, kind: u32, tables: &[u8], cards: &mut [u8], page: &mut Page) {
     let format = Format::of(kind);
-    let lines = summary::lines_at(format);
     summary::make(
         kind,
         octets::part(tables, 0, memory::SEQUENCE_TABLE),
         octets::part(tables, memory::SEQUENCE_TABLE, memory::LINE_LIST_TABLE),
         cards,
     );
-    let p = put_cards(text, 0, format.last, cards);
-    let end = put_lists(text, p, octets::part(cards, lines, summary::LINES));
-    console::show(rt, octets::part(text, 0, end));
+    put_cards(page, format.last, cards);
+    put_lists(
+        page,
+        octets::part(cards, summary::lines_at(format), summary::LINES),
+    );
+    page.show(rt);
 }
 
 // The summary of what was read, or that it is not the tables wanted.
@@ -121,21 +83,20 @@ fn run(
     input: &mut impl Read,
     tables: &mut [u8],
     word: &mut [u8],
-    text: &mut [u8],
+    page: &mut Page,
 ) {
     let n = console::read_full(input, tables);
     if n != TABLES {
         console::show(rt, b"REFUSED TABLES 16\n");
         return;
     }
-    let letters = console::arg(rt, 1, word);
-    let kind = line::kind_named(octets::part(word, 0, letters));
+    let kind = line::kind_named(console::word(rt, 1, word));
     if kind == memory::FLIGHT {
         let mut cards = [0u8; SUMMARY];
-        show(rt, kind, tables, &mut cards, text)
+        show(rt, kind, tables, &mut cards, page)
     } else {
         let mut cards = [0u8; OLD_SUMMARY];
-        show(rt, kind, tables, &mut cards, text)
+        show(rt, kind, tables, &mut cards, page)
     }
 }
 
@@ -144,5 +105,6 @@ fn main(rt: HostRuntime) {
     let mut word = [0u8; WORD];
     let mut text = [0u8; 32768];
     let mut input = rt.stdin();
-    run(&rt, &mut input, &mut tables, &mut word, &mut text)
+    let mut page = Page::over(&mut text);
+    run(&rt, &mut input, &mut tables, &mut word, &mut page)
 }

@@ -8,8 +8,9 @@ use mathlib.Core.Logic.{◌⊎◌, inl, inr}
 use lib.Dec.{eqb}
 use lib.ListN.{length, get_or, take, drop}
 use lib.Seq.{get_or-take, get_or-drop}
-use borrow.Author.Tests.{eqb-true, not-false, ne_eqb, lt-leb, le-leb}
+use borrow.Author.Tests.{eqb-true, eqb-false, not-false, ne_eqb, lt-leb, le-leb}
 use Rattle.octets.specs.Rows.{first_code}
+use Rattle.octets.proofs.Bools.{by-test, clash}
 use Rattle.octets.proofs.Laws.{none-holds}
 use Rattle.octets.proofs.LayoutLaws.{Octets}
 use Rattle.memory.specs.declared.Format.{Format}
@@ -25,7 +26,7 @@ use Rattle.runner.proofs.Laws.{step-idle}
 use Rattle.runner.proofs.Moves.{Moved, step-moves}
 use Rattle.unit.specs.declared.Unit.{Unit}
 use Rattle.status.specs.declared.Ledger.{Ledger}
-use Rattle.unit.specs.declared.Outcome.TheVariants.{Denied, Saw}
+use Rattle.std.specs.Prelude.{Option, Some, None, Ok, Err}
 use Rattle.unit.specs.declared.UnitStep.{UnitStep}
 use Rattle.unit.specs.Packet.{lent_wrong, code_of}
 use Rattle.unit.specs.Answer.{unit_after}
@@ -35,7 +36,7 @@ use Rattle.unit.specs.Step.{step_rows, stepped, with_step, unit_step_by, unit_st
 use Rattle.unit.specs.State.{with_ledger, with_watch, with_runner, out_of_range}
 use Rattle.state.specs.State.{state_sized, state_of, unit_of, flags_wrong}
 use Rattle.state.proofs.Laws.{load-save}
-use Rattle.keel.specs.Calls.{held_rows, held_code, packet_code, state_after, kept_seqs, kept_lists, kept_out, held_step, state_by, state_stepped}
+use Rattle.keel.specs.Calls.{held_rows, held_code, refused_with, packet_code, state_after, kept_seqs, kept_lists, kept_out, held_step, state_by, state_stepped}
 
 -- ── what the bytes of the state are refused for
 abbrev held_by : Bool → Bool → Bool → ℕ
@@ -58,44 +59,53 @@ held-passed lent s h =
     let n = none-holds (held_rows lent s) tt h in
     (eqb-true (length s) 36 (not-false (state_sized s) n.0), (n.1.1.0, n.1.0))
 
+-- as the code holds it: no code, or one that is not 0
+pub refused_some : (k code : ℕ) (r : Option ℕ) → r ≡ refused_with k → r ≡ Some code → (code ≡ k) × (code ≡ 0 → ⊥)
+refused_some k code r e is =
+    by-test (eqb k 0) (λ t. absurd (clash (let h : None ≡ Some code = rw t at (sym e ∙ is) in cc)))
+    (λ t. let h : Some k ≡ Some code = rw t at (sym e ∙ is) in let same : code ≡ k = cc in (same, λ z. eqb-false k 0 t (sym same ∙ z)))
+
+pub refused_none : (k : ℕ) (r : Option ℕ) → r ≡ refused_with k → ((code : ℕ) → r ≡ Some code → ⊥) → k ≡ 0
+refused_none k r e none = by-test (eqb k 0) (λ t. eqb-true k 0 t) (λ t. absurd (none k (e ∙ rw t)))
+
 -- ── a step
 -- a step that shows an event changes what the event moves in the run and in what the status takes from it
 abbrev pub Took : Unit → Event → Unit → Type 0
 Took u e v = v ≡ with_watch (watched e u.watch) (with_runner (moves e v.runner u.runner) u)
 
 took_by : (t : Bool) (u : Unit) (x : Stepped) (code : ℕ) (e : Event) → Moved u.runner x
-    → let r : UnitStep = cond t (with_step u x) (stepped (Denied code) u) in r.outcome ≡ Saw e → Took u e r.unit
+    → let r : UnitStep = cond t (with_step u x) (stepped (Err code) u) in r.outcome ≡ Ok e → Took u e r.unit
 unfolding with_step
 took_by true u x code e m o =
     let f : x.event ≡ e = cc in
     rw (← f) (ap (λ (r : Runner). with_watch (watched x.event u.watch) (with_runner r u)) m)
 took_by false u x code e m o = let z : ◌≡◌ {A = ℕ} 0 1 = cc in absurd (omega arith)
 
-pub took : (F : Format) (u : Unit) (seqs lists : List ℕ) (e : Event) → (unit_step F u seqs lists).outcome ≡ Saw e → Took u e (unit_step F u seqs lists).unit
+pub took : (F : Format) (u : Unit) (seqs lists : List ℕ) (e : Event) → (unit_step F u seqs lists).outcome ≡ Ok e → Took u e (unit_step F u seqs lists).unit
 unfolding unit_step
 took F u seqs lists e =
     let code = first_code (step_rows F u seqs lists) in
     took_by (eqb code 0) u (step_of (env_of F lists) seqs u.runner) code e (step-moves u.runner (env_of F lists) seqs)
 
-rest-by : (t : Bool) (u : Unit) → unit_step_by (cond t 17 0) u (to Idle u.runner) ≡ cond t (stepped (Denied 17) u) (stepped (Saw Idle) u)
+rest-by : (t : Bool) (u : Unit) → unit_step_by (cond t 17 0) u (to Idle u.runner) ≡ cond t (stepped (Err 17) u) (stepped (Ok Idle) u)
 unfolding with_step
 rest-by true u = refl
 rest-by false u = refl
 
 -- a unit that does not run idles, unless it is out of range
-pub at_rest : (F : Format) (u : Unit) (seqs lists : List ℕ) → tables_wrong F seqs lists ≡ false → u.runner.running ≡ false → unit_step F u seqs lists ≡ cond (out_of_range F u) (stepped (Denied 17) u) (stepped (Saw Idle) u)
+pub at_rest : (F : Format) (u : Unit) (seqs lists : List ℕ) → tables_wrong F seqs lists ≡ false → u.runner.running ≡ false → unit_step F u seqs lists ≡ cond (out_of_range F u) (stepped (Err 17) u) (stepped (Ok Idle) u)
 unfolding step_rows unit_step
 at_rest F u seqs lists t n = simp (t, ← step-idle (env_of F lists) seqs u.runner n) (rest-by (out_of_range F u) u)
 
 idle-left : (t : Bool) (held : ℕ) (s : List ℕ) (u : Unit) (r : UnitStep)
-    → (t ≡ true → r.outcome ≡ Saw Idle → state_of r.unit ≡ s)
-    → let x : UnitStep = cond t r (stepped (Denied held) u) in x.outcome ≡ Saw Idle → state_by s x x.outcome ≡ s
+    → (t ≡ true → r.outcome ≡ Ok Idle → state_of r.unit ≡ s)
+    → let x : UnitStep = cond t r (stepped (Err held) u) in x.outcome ≡ Ok Idle → state_by s x x.outcome ≡ s
 idle-left true held s u r k o = rw o (k refl o)
 idle-left false held s u r k o = let z : ◌≡◌ {A = ℕ} 0 1 = cc in absurd (omega arith)
 
 module _ (F : Format) (s seqs lists : List ℕ) where
   -- "A step not running is idle and changes nothing."
-  pub idle-keeps : Octets s → (held_step F s seqs lists).outcome ≡ Saw Idle → state_stepped F s seqs lists ≡ s
+  pub idle-keeps : Octets s → (held_step F s seqs lists).outcome ≡ Ok Idle → state_stepped F s seqs lists ≡ s
   unfolding held_step state_stepped
   idle-keeps octets =
       let held = held_code (tables_wrong F seqs lists) s in
@@ -104,7 +114,7 @@ module _ (F : Format) (s seqs lists : List ℕ) where
       (λ z o. let (sized, (flags, lent)) = held-passed (tables_wrong F seqs lists) s (eqb-true held 0 z) in ap state_of (took F u seqs lists Idle o) ∙ load-save s sized octets flags)
 
   -- "16 and 17 leave every lent byte as it was"
-  pub denied-keeps : (code : ℕ) → (held_step F s seqs lists).outcome ≡ Denied code → state_stepped F s seqs lists ≡ s
+  pub denied-keeps : (code : ℕ) → (held_step F s seqs lists).outcome ≡ Err code → state_stepped F s seqs lists ≡ s
   unfolding state_stepped
   denied-keeps code o = rw o
 

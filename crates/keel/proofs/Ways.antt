@@ -3,32 +3,25 @@ use Prim.Native.Nat.{ℕ, ◌+◌, ◌*◌, ◌≤◌}
 use native.Mathlib.Omega.{arith}
 use mathlib.Core.Path.{◌≡◌, refl, sym, ap, ◌∙◌}
 use mathlib.Core.Bool.{Bool, true, false, cond}
-use mathlib.Core.List.{List, [], ◌∷◌, ◌++◌, append-nil, append_assoc}
+use mathlib.Core.List.{List, [], ◌++◌}
 use lib.Dec.{leb, eqb}
-use lib.ListN.{length, drop, length-append, length-drop, drop_of_length-le}
-use lib.Seq.{take-append_seam, drop-append-add}
+use lib.ListN.{length, drop}
 use borrow.Author.Tests.{leb-true, le-leb, ne_eqb}
-use Rattle.octets.specs.Bytes.{two, eight}
 use Rattle.octets.proofs.LayoutLaws.{Octets}
 use Rattle.octets.proofs.Bools.{either}
 use Rattle.memory.specs.declared.Format.{Format}
-use Rattle.memory.specs.Memory.{tables_wrong, written}
+use Rattle.memory.specs.Memory.{tables_wrong}
 use Rattle.runner.specs.declared.Runner.{Runner}
 use Rattle.runner.specs.declared.Event.{Event}
 use Rattle.runner.specs.declared.Event.TheVariants.{Idle}
 use Rattle.runner.specs.Events.{shown_as}
-use Rattle.survey.specs.declared.Report.{Report}
-use Rattle.survey.specs.Chain.{Told}
-use Rattle.sequence.specs.declared.ReasonNumbers.{ReasonNumbers}
-use Rattle.sequence.specs.LineList.{reason_as}
-use Rattle.survey.specs.Report.{ending_shown, reason_of, reason_shown, report_of}
 use Rattle.unit.specs.declared.Unit.{Unit}
 use Rattle.telecommand.specs.declared.Telecommand.{Telecommand}
 use Rattle.telecommand.specs.declared.Telecommand.TheVariants.{Status, Dump}
 use Rattle.unit.specs.declared.Answer.{Answer}
-use Rattle.unit.specs.declared.Outcome.TheVariants.{Denied, Saw}
+use Rattle.std.specs.Prelude.{Ok, Err}
 use Rattle.unit.specs.declared.UnitStep.{UnitStep}
-use Rattle.unit.specs.State.{with_runner, power_on, out_of_range}
+use Rattle.unit.specs.State.{with_runner, out_of_range}
 use Rattle.telecommand.specs.Packet.{is, command_of}
 use Rattle.unit.specs.Packet.{lent_wrong, code_of}
 use Rattle.unit.specs.Status.{status_of}
@@ -39,7 +32,6 @@ use Rattle.state.specs.State.{unit_of, state_of}
 use Rattle.state.specs.Parts.{answer_over, step_over}
 use Rattle.state.proofs.Laws.{load-save, answer-saved, step-saved}
 use Rattle.keel.specs.Calls.{held_code, packet_code, packet_reply, packet_answer, state_after, kept_seqs, kept_lists, kept_out, packed, denied_as, held_step, step_answer, state_stepped}
-use Rattle.keel.specs.Report.{report_bytes}
 use Rattle.keel.proofs.Laws.{held_high, held-passed, Took, took, at_rest}
 
 -- ── the unit
@@ -129,11 +121,11 @@ module _ (F : Format) (s seqs lists : List ℕ) where
 
     module _ (none : held ≡ 0) (u : Unit) (read : u ≡ unit_of s) where
       module _ (r : UnitStep) (e : r ≡ unit_step F u seqs lists) where
-        pub denies : (code : ℕ) → r.outcome ≡ Denied code → Stepped (denied_as code) s
+        pub denies : (code : ℕ) → r.outcome ≡ Err code → Stepped (denied_as code) s
         unfolding held_step step_answer state_stepped
         denies code o = simp (← by_size, none, ← read, ← e, o) (refl, refl)
 
-        sees : (event : Event) (s' : List ℕ) → r.outcome ≡ Saw event → s' ≡ state_of r.unit → Stepped (packed (shown_as r.unit.watch.exposures event)) s'
+        sees : (event : Event) (s' : List ℕ) → r.outcome ≡ Ok event → s' ≡ state_of r.unit → Stepped (packed (shown_as r.unit.watch.exposures event)) s'
         unfolding held_step step_answer state_stepped
         sees event s' o f = simp (← by_size, none, ← read, ← e, o, f) (refl, refl)
 
@@ -142,66 +134,17 @@ module _ (F : Format) (s seqs lists : List ℕ) where
 
       -- a unit that does not run: nothing is written
       module _ (still : u.runner.running ≡ false) where
-        rests : unit_step F u seqs lists ≡ cond (out_of_range F u) (stepped (Denied 17) u) (stepped (Saw Idle) u)
+        rests : unit_step F u seqs lists ≡ cond (out_of_range F u) (stepped (Err 17) u) (stepped (Ok Idle) u)
         rests = let (sized, (flags, fits)) = held-passed lent s (sym told ∙ none) in at_rest F u seqs lists (sym size ∙ fits) still
 
         pub refuses : out_of_range F u ≡ true → Stepped (denied_as 17) s
-        refuses h = denies (stepped (Denied 17) u) (sym (simp h at rests)) 17 refl
+        refuses h = denies (stepped (Err 17) u) (sym (simp h at rests)) 17 refl
 
         pub idles : Octets s → out_of_range F u ≡ false → Stepped 0 s
-        idles octets h = sees (stepped (Saw Idle) u) (sym (simp h at rests)) Idle s refl (same octets)
+        idles octets h = sees (stepped (Ok Idle) u) (sym (simp h at rests)) Idle s refl (same octets)
 
       -- a unit that runs: what the event moves is written
-      pub moves-on : (r : UnitStep) → r ≡ unit_step F u seqs lists → Octets s → (event : Event) → r.outcome ≡ Saw event → (s' : List ℕ) → s' ≡ step_over event r.unit s → Stepped (packed (shown_as r.unit.watch.exposures event)) s'
+      pub moves-on : (r : UnitStep) → r ≡ unit_step F u seqs lists → Octets s → (event : Event) → r.outcome ≡ Ok event → (s' : List ℕ) → s' ≡ step_over event r.unit s → Stepped (packed (shown_as r.unit.watch.exposures event)) s'
       moves-on r e octets event saw s' f =
           let k : Took u event r.unit = rw e (took F u seqs lists event (rw e at saw)) in
           sees r e event s' saw (f ∙ rw (same octets) (ap (λ (v : Unit). step_over event v (state_of u)) k ∙ step-saved event u r.unit.runner ∙ ap state_of (sym k)))
-
--- ── power-on
-pub powers : (s : List ℕ) → length s ≡ 36 → written s 0 (state_of power_on) ≡ state_of power_on
-unfolding state_of power_on
-powers s h = simp (h, drop_of_length-le s {i = 36} (omega arith))
-
--- ── a report
--- a part written after what is written already
-next : (p r d : List ℕ) (at : ℕ) → length p ≡ at → length d ≤ length r → written (p ++ r) at d ≡ (p ++ d) ++ drop (length d) r
-next p r d at e h =
-    let fits : length p + length d ≤ length (p ++ r) = simp length-append (omega arith) in
-    simp (← e, le-leb (length p + length d) (length (p ++ r)) fits, take-append_seam, drop-append-add, append_assoc)
-
-laid_out : (r a b c d : List ℕ) → length r ≡ 152 → length a ≡ 8 → length b ≡ 8 → length c ≡ 8 → length d ≡ 128
-    → written (written (written (written r 0 a) 8 b) 16 c) 24 d ≡ a ++ (b ++ (c ++ d))
-laid_out r a b c d h ha hb hc hd =
-    let r1 = drop (length a) r in
-    let r2 = drop (length b) r1 in
-    let r3 = drop (length c) r2 in
-    let l1 = length-drop (length a) r in
-    let l2 = length-drop (length b) r1 in
-    let l3 = length-drop (length c) r2 in
-    let ab = length-append a b in
-    let abc = length-append (a ++ b) c in
-    ap (λ (w : List ℕ). written (written (written w 8 b) 16 c) 24 d) (next [] r a 0 refl (omega arith))
-    ∙ ap (λ (w : List ℕ). written (written w 16 c) 24 d) (next a r1 b 8 ha (omega arith))
-    ∙ ap (λ (w : List ℕ). written w 24 d) (next (a ++ b) r2 c 16 (omega arith) (omega arith))
-    ∙ next ((a ++ b) ++ c) r3 d 24 (omega arith) (omega arith)
-    ∙ ap (λ (x : List ℕ). (((a ++ b) ++ c) ++ d) ++ x) (drop_of_length-le r3 {i = length d} (omega arith))
-    ∙ simp (append-nil, append_assoc)
-
--- how the check ended, steps, exposures and chain of what was found, written one after another
-pub reported : (found : Report) (t : Told) (r : List ℕ) (code number sequence place reason value : ℕ) (steps exposures w1 w2 w3 w4 : List ℕ)
-    → found ≡ report_of t → length r ≡ 152 → length found.listed ≡ 128
-    → code ≡ (ending_shown found.ending).code → number ≡ (ending_shown found.ending).number
-    → sequence ≡ (ending_shown found.ending).sequence → place ≡ (ending_shown found.ending).place
-    → reason_as reason value ≡ reason_shown (reason_of found.ending)
-    → steps ≡ eight found.steps → exposures ≡ eight found.exposures
-    → w1 ≡ written r 0 (code ∷ number ∷ sequence ∷ place ∷ reason ∷ value ∷ two found.count)
-    → w2 ≡ written w1 8 steps → w3 ≡ written w2 16 exposures → w4 ≡ written w3 24 found.listed
-    → w4 ≡ report_bytes t
-unfolding report_of report_bytes
-reported found t r code number sequence place reason value steps exposures w1 w2 w3 w4 e h hl ec en es ep er e1 e2 f1 f2 f3 f4 =
-    let head = code ∷ number ∷ sequence ∷ place ∷ reason ∷ value ∷ two found.count in
-    let rn : reason ≡ (reason_shown (reason_of found.ending)).number = ap (λ (x : ReasonNumbers). x.number) er in
-    let rv : value ≡ (reason_shown (reason_of found.ending)).value = ap (λ (x : ReasonNumbers). x.value) er in
-    let l1 : length steps ≡ 8 = ap length e1 in
-    let l2 : length exposures ≡ 8 = ap length e2 in
-    f4 ∙ simp (f3, f2, f1) (laid_out r head steps exposures found.listed h refl l1 l2 hl ∙ simp (ec, en, es, ep, rn, rv, e1, e2, e))

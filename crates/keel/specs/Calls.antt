@@ -1,17 +1,15 @@
 -- The calls of the library for C, over the format of the kind that each is given. "A state not of 36 bytes is 16. 16 and 17 leave every lent
 -- byte as it was."
-use Rattle.std.specs.Prelude.{ℕ, ◌+◌, ◌*◌, ◌^◌, Bool, cond, not, List, [], ◌∷◌, leb, eqb, length, get_or}
+use Rattle.std.specs.Prelude.{ℕ, ◌+◌, ◌*◌, ◌^◌, Bool, cond, not, List, [], ◌∷◌, leb, eqb, length, get_or, Option, Some, None, Ok, Err}
 use Rattle.octets.specs.Rows.{Row, row, first_code}
 use Rattle.memory.specs.declared.Format.{Format}
 use Rattle.memory.specs.Memory.{tables_wrong}
 use Rattle.runner.specs.Events.{Shown, shown_as}
-use Rattle.unit.specs.declared.Outcome.{Outcome}
-use Rattle.unit.specs.declared.Outcome.TheVariants.{Denied, Saw}
 use Rattle.unit.specs.declared.UnitStep.{UnitStep}
 use Rattle.unit.specs.State.{power_on}
 use Rattle.unit.specs.Packet.{lent_wrong, code_of}
 use Rattle.unit.specs.Answer.{unit_after, reply_of, seqs_after, lists_after, out_after}
-use Rattle.unit.specs.Step.{stepped, unit_step}
+use Rattle.unit.specs.Step.{Outcome, stepped, unit_step}
 use Rattle.state.specs.State.{state_sized, unit_of, state_of, flags_wrong}
 
 -- ── keel_power_on: 0 or 16
@@ -28,6 +26,10 @@ held_rows lent s = row 16 (not (state_sized s)) ∷ row 16 lent ∷ row 17 (flag
 
 abbrev pub held_code : Bool → List ℕ → ℕ
 held_code lent s = first_code (held_rows lent s)
+
+-- as the code holds it: nothing where it is 0
+abbrev pub refused_with : ℕ → Option ℕ
+refused_with code = cond (eqb code 0) None (Some code)
 
 unfoldable pub packet_code : Format → List ℕ → List ℕ → List ℕ → List ℕ → List ℕ → ℕ
 packet_code F s seqs lists out p =
@@ -62,8 +64,8 @@ abbrev pub denied_as : ℕ → ℕ
 denied_as code = 11 + code * 2 ^ 16
 
 abbrev pub outcome_as : ℕ → Outcome → ℕ
-outcome_as count (Denied code) = denied_as code
-outcome_as count (Saw e) = packed (shown_as count e)
+outcome_as count (Err code) = denied_as code
+outcome_as count (Ok e) = packed (shown_as count e)
 
 abbrev pub stepped_as : UnitStep → ℕ
 stepped_as r = outcome_as r.unit.watch.exposures r.outcome
@@ -71,14 +73,14 @@ stepped_as r = outcome_as r.unit.watch.exposures r.outcome
 -- the unit's step, or what the bytes of the state are refused for
 unfoldable pub held_step : Format → List ℕ → List ℕ → List ℕ → UnitStep
 held_step F s seqs lists =
-    cond (eqb (held_code (tables_wrong F seqs lists) s) 0) (unit_step F (unit_of s) seqs lists) (stepped (Denied (held_code (tables_wrong F seqs lists) s)) (unit_of s))
+    cond (eqb (held_code (tables_wrong F seqs lists) s) 0) (unit_step F (unit_of s) seqs lists) (stepped (Err (held_code (tables_wrong F seqs lists) s)) (unit_of s))
 
 unfoldable pub step_answer : Format → List ℕ → List ℕ → List ℕ → ℕ
 step_answer F s seqs lists = stepped_as (held_step F s seqs lists)
 
 abbrev pub state_by : List ℕ → UnitStep → Outcome → List ℕ
-state_by s r (Denied code) = s
-state_by s r (Saw e) = state_of r.unit
+state_by s r (Err code) = s
+state_by s r (Ok e) = state_of r.unit
 
 unfoldable pub state_stepped : Format → List ℕ → List ℕ → List ℕ → List ℕ
 state_stepped F s seqs lists = state_by s (held_step F s seqs lists) (held_step F s seqs lists).outcome

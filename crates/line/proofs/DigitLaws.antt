@@ -4,7 +4,7 @@ use Prim.Native.Nat.{ℕ, zero, suc, ◌+◌, ◌*◌, ◌-◌, ◌/◌, ◌%◌
 use native.Mathlib.Nat.{pow-suc}
 use native.Mathlib.Numerals.{add-one}
 use native.Mathlib.Omega.{arith}
-use mathlib.Core.Path.{◌≡◌, refl, ap, ◌∙◌}
+use mathlib.Core.Path.{◌≡◌, refl, sym, ap, ◌∙◌}
 use mathlib.Core.Bool.{Bool, true, false, cond, ◌&&◌, beq, false≢true}
 use mathlib.Core.List.{List, [], ◌∷◌, ◌++◌, append-nil}
 use lib.ListN.{length, set, take, drop, length-append, length-set, length-drop, drop_of_length-le}
@@ -42,40 +42,39 @@ digit-run : (n : ℕ) → n < 16 → cond (ltb n 10) (48 + n) (55 + n) ≡ digit
 unfolding digit_of
 digit-run n h = eqb-true (cond (ltb n 10) (48 + n) (55 + n)) (digit_of n) (tested digits-run 16 refl n h)
 
-pub digit_low : (n : ℕ) → n < 10 → 48 + n ≡ digit_of n
-digit_low n h = rw (lt-ltb n 10 h) at (digit-run n (omega arith))
+pub digit_low : (n : ℕ) → n < 10 → digit_of n ≡ 48 + n
+digit_low n h = sym (rw (lt-ltb n 10 h) at (digit-run n (omega arith)))
 
-pub digit-high : (n : ℕ) → 10 ≤ n → n < 16 → 55 + n ≡ digit_of n
-digit-high n l h = rw (le-ltb n 10 l) at (digit-run n h)
+pub digit_high : (n : ℕ) → 10 ≤ n → n < 16 → digit_of n ≡ 55 + n
+digit_high n l h = sym (rw (le-ltb n 10 l) at (digit-run n h))
 
 -- the hex digits among the bytes, as a bit for each from `0` to `f`
-abbrev bit_of : ℕ → Bool
-bit_of b = eqb (35465847073801215 / 2 ^ (b - 48) % 2) 1
-
 abbrev marked : ℕ → Bool
-marked b = cond (ltb b 48) false (cond (ltb 102 b) false (bit_of b))
+marked b = ltb 47 b && ltb b 103 && eqb (35465847073801215 / 2 ^ (b - 48) % 2) 1
 
-hex-marked : (b : ℕ) → b < 256 → marked b ≡ is_hex b
+hex_marked : (b : ℕ) → b < 256 → is_hex b ≡ marked b
 unfolding value_of
-hex-marked b h = same_test (marked b) (is_hex b) (tested (λ (n : ℕ). beq (marked n) (is_hex n)) 256 refl b h)
+hex_marked b h = same_test (is_hex b) (marked b) (tested (λ (n : ℕ). beq (is_hex n) (marked n)) 256 refl b h)
 
 module _ (b : ℕ) (h : b < 256) where
-  pub hex-before : b < 48 → false ≡ is_hex b
-  hex-before l = rw (lt-ltb b 48 l) at (hex-marked b h)
+  pub hex_below : b < 48 → is_hex b ≡ false
+  hex_below k = rw (hex_marked b h, le-ltb 47 b (omega arith))
 
-  pub hex-past : 48 ≤ b → 102 < b → false ≡ is_hex b
-  hex-past k l = rw (le-ltb b 48 k, lt-ltb 102 b l) at (hex-marked b h)
+  pub hex_above : 102 < b → is_hex b ≡ false
+  hex_above k = rw (hex_marked b h, lt-ltb 47 b (omega arith), le-ltb b 103 (omega arith))
 
-  pub hex-between : 48 ≤ b → b ≤ 102 → bit_of b ≡ is_hex b
-  hex-between k l = rw (le-ltb b 48 k, le-ltb 102 b l) at (hex-marked b h)
+  pub hex_between : 48 ≤ b → b ≤ 102 → is_hex b ≡ eqb (35465847073801215 / 2 ^ (b - 48) % 2) 1
+  hex_between k l = rw (hex_marked b h, lt-ltb 47 b (omega arith), lt-ltb b 103 (omega arith))
 
 -- a hex digit's value is its low four bits, and 9 more for a letter
 abbrev valued : ℕ → Bool
 valued b = cond (is_hex b) (eqb (b % 16 + b / 64 * 9) (value_of b)) true
 
-pub hex-value : (b : ℕ) → b < 256 → is_hex b ≡ true → b % 16 + b / 64 * 9 ≡ value_of b
+pub hex_value : (b : ℕ) → b < 256 → is_hex b ≡ true → value_of b ≡ b % 16 + b / 64 * 9
 unfolding value_of
-hex-value b h e = eqb-true (b % 16 + b / 64 * 9) (value_of b) (rw e at (tested valued 256 refl b h))
+hex_value b h e = sym (eqb-true (b % 16 + b / 64 * 9) (value_of b) (rw e at (tested valued 256 refl b h)))
+
+pub ruleset digits = (digit_low, digit_high, hex_below, hex_above, hex_between, hex_value)
 
 -- ── decimal
 pub tens : (k n : ℕ) → n < 10 ^ suc (suc k) → n / 10 < 10 ^ suc k

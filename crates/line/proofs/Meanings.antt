@@ -14,10 +14,9 @@ use Rattle.octets.specs.Words.{bytes_of}
 use Rattle.octets.proofs.Bools.{and_both, by-test}
 use Rattle.line.specs.Digits.{digit_of, value_of, hex_of, bytes_in, spell, decimal, shown_on, is_digit, all, each}
 use Rattle.line.specs.Writing.{last_place, place_after, put_over, Laid}
-use Rattle.line.specs.Reading.{is_figure, zero_leads, numeral_of, begins, is_packet, steps_from, steps_line, line_of, packet_after}
+use Rattle.line.specs.Reading.{zero_leads, numeral_of, begins, is_packet, steps_from, line_of, packet_after}
 use Rattle.line.specs.declared.Line.TheVariants.{Packet, Steps, Bad}
-use Rattle.line.specs.declared.Numeral.{Numeral}
-use Rattle.line.specs.declared.Numeral.TheVariants.{Value, Wrong}
+use Rattle.std.specs.Prelude.{Option, Some, None}
 use Rattle.line.proofs.DigitLaws.{tested, digit_low, tens}
 use Rattle.line.proofs.WritingLaws.{next_place}
 use Rattle.line.proofs.ReadingLaws.{packet-told}
@@ -28,7 +27,6 @@ pub one-result : {o a b : List ℕ} {at r s : ℕ} {text : List ℕ} → Laid o 
 one-result p q = (p.bytes ∙ sym q.bytes, p.place ∙ sym q.place)
 
 pub place-fits : (at n : ℕ) → at + n ≤ last_place → place_after at n ≡ at + n
-unfolding place_after
 place-fits at n h = omega arith
 
 laid-sets : (o : List ℕ) (at : ℕ) (text : List ℕ) → at + length text ≤ last_place → put_over o at text ≡ sets o at text
@@ -49,7 +47,6 @@ bytes-length (h ∷ []) = refl
 bytes-length (h ∷ k ∷ l) = let e = bytes-length l in omega arith
 
 pub packet-bytes : (l p : List ℕ) → is_packet l ≡ true → length p ≡ 140 → take (length l / 2) (packet_after l p) ≡ bytes_in l
-unfolding packet_after
 packet-bytes l p e k =
     let t = packet-told l e in
     let n = bytes-length l in
@@ -57,7 +54,6 @@ packet-bytes l p e k =
 
 -- the packet that a line is has no more bytes than the lent one
 pub packet-size : (l : List ℕ) (n : ℕ) → line_of l ≡ Packet n → n ≤ 140
-unfolding line_of steps_line
 packet-size l n e =
     by-test (is_packet l)
     (λ t. let g : length l / 2 ≡ n = is n (rw t at e) in let u = packet-told l t in omega arith)
@@ -72,10 +68,10 @@ packet-size l n e =
     no_steps : {v k : ℕ} → Steps v ≡ Packet k → ⊥
     no_steps f = let z : ◌≡◌ {A = ℕ} 0 1 = cc in omega arith
 
-    never : (b : Bool) (m : Numeral) (k : ℕ) → cond b (steps_from m) Bad ≡ Packet k → ⊥
+    never : (b : Bool) (m : Option ℕ) (k : ℕ) → cond b (steps_from m) Bad ≡ Packet k → ⊥
     never false m k f = no-bad f
-    never true Wrong k f = no-bad f
-    never true (Value v) k f = by-test (eqb v 0) (λ t. no-bad (rw t at f)) (λ t. no_steps (rw t at f))
+    never true None k f = no-bad f
+    never true (Some v) k f = by-test (eqb v 0) (λ t. no-bad (rw t at f)) (λ t. no_steps (rw t at f))
 
 -- ── a byte in hex, read back
 digit_value : (n : ℕ) → n < 16 → value_of (digit_of n) ≡ n
@@ -83,7 +79,7 @@ unfolding digit_of value_of
 digit_value n h = eqb-true (value_of (digit_of n)) n (tested (λ (k : ℕ). eqb (value_of (digit_of k)) k) 16 refl n h)
 
 pub hex-back : (s : List ℕ) → all (λ (b : ℕ). ltb b 256) s ≡ true → bytes_in (each hex_of s) ≡ s
-unfolding each bytes_in all
+unfolding bytes_in
 hex-back [] e = refl
 hex-back (b ∷ s) e =
     let (h, t) = and_both (ltb b 256) (all (λ (x : ℕ). ltb x 256) s) e in
@@ -98,7 +94,6 @@ shown-more n [] d = refl
 shown-more n (b ∷ s) d = shown-more (n * 10 + (b - 48)) s d
 
 all_more : (test : ℕ → Bool) (s : List ℕ) (d : ℕ) → all test s ≡ true → test d ≡ true → all test (s ++ (d ∷ [])) ≡ true
-unfolding all
 all_more test [] d e t = rw t
 all_more test (b ∷ s) d e t = let (p, q) = and_both (test b) (all test s) e in rw (p, all_more test s d q t)
 
@@ -110,10 +105,10 @@ pub record Reads (n : ℕ) (s : List ℕ) : Type 0 where
   pub first : 0 < n → get_or s 0 0 ≡ 48 → ⊥
 
 reads-digit : (n : ℕ) → n < 10 → Reads n (digit_of n ∷ [])
-unfolding shown_on all
+unfolding shown_on
 reads-digit n h =
     let e = digit_low n h in
-    rw (← e)
+    rw e
     (record {
       shown = omega arith;
       digits = rw (le-leb 48 (48 + n) (omega arith), le-leb (48 + n) 57 (omega arith));
@@ -124,7 +119,7 @@ reads-digit n h =
 reads_more : (n : ℕ) (s : List ℕ) → 10 ≤ n → Reads (n / 10) s → Reads n (s ++ (digit_of (n % 10) ∷ []))
 reads_more n s h r =
     let e = digit_low (n % 10) (omega arith) in
-    rw (← e)
+    rw e
     (record {
       shown = shown-more 0 s (48 + n % 10) ∙ omega (arith, r.shown);
       digits = all_more is_digit s (48 + n % 10) r.digits (rw (le-leb 48 (48 + n % 10) (omega arith), le-leb (48 + n % 10) 57 (omega arith)));
@@ -145,12 +140,11 @@ unfolding decimal
 decimal-reads n h = reads-spell 19 n (omega arith)
 
 no-zero-leads : (n : ℕ) → n < 2 ^ 64 → zero_leads (decimal n) ≡ false
-unfolding zero_leads decimal spell digit_of
+unfolding decimal spell digit_of
 no-zero-leads zero h = refl
 no-zero-leads (suc n) h = rw (ne_eqb (get_or (decimal (suc n)) 0 0) 48 ((decimal-reads (suc n) h).first (omega arith)))
 
-pub number-back : (n : ℕ) → n ≤ 65535 → numeral_of (decimal n) ≡ Value n
-unfolding numeral_of is_figure
+pub number-back : (n : ℕ) → n ≤ 65535 → numeral_of (decimal n) ≡ Some n
 number-back n h =
     let r = decimal-reads n (omega arith) in
     rw (lt-ltb 0 (length (decimal n)) r.some, r.digits, no-zero-leads n (omega arith), r.shown, le-leb n 65535 h)

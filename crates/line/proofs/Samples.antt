@@ -8,9 +8,9 @@ use lib.ListN.{replicate}
 use Rattle.octets.specs.Words.{bytes_of}
 use Rattle.octets.proofs.Samples.{Sample, sample, all_right}
 use Rattle.runner.specs.declared.Event.TheVariants.{Idle, Raster, Exp, Abort}
-use Rattle.line.specs.Digits.{digit_of, value_of, bytes_in, spell, decimal, shown_on, all, each}
+use Rattle.line.specs.Digits.{digit_of, value_of, bytes_in, spell, decimal, shown_on, each}
 use Rattle.line.specs.Writing.{spaced, members, bits_set, bits_text, marks_text, answer_text, block_text, event_text, bad_text, reason_text}
-use Rattle.line.specs.Reading.{is_figure, zero_leads, numeral_of, begins, is_packet, steps_line, line_of}
+use Rattle.line.specs.Reading.{line_of}
 use Rattle.line.specs.declared.Line.{Line}
 use Rattle.line.specs.declared.Line.TheVariants.{Packet, Steps, Bad}
 
@@ -85,5 +85,5 @@ samples =
     ∷ []
 
 pub samples-right : all_right samples ≡ true
-unfolding line_of is_packet steps_line begins numeral_of is_figure zero_leads all value_of bytes_in shown_on digit_of decimal spell each answer_text block_text event_text members bits_set bits_text reason_text
+unfolding value_of bytes_in shown_on digit_of decimal spell members bits_set
 samples-right = refl

@@ -1,5 +1,6 @@
 -- Digits: bytes in hex, numbers in decimal, and what digits show.
-use Rattle.std.specs.Prelude.{ℕ, zero, suc, ◌+◌, ◌*◌, ◌-◌, ◌/◌, ◌%◌, min, Bool, true, cond, ◌&&◌, List, [], ◌∷◌, ◌++◌, ltb, leb, eqb, get_or}
+use Rattle.std.specs.Prelude.{ℕ, zero, suc, ◌+◌, ◌*◌, ◌-◌, ◌/◌, ◌%◌, min, Bool, cond, ◌&&◌, List, [], ◌∷◌, ◌++◌, ltb, leb, eqb, get_or}
+use Rattle.std.specs.List.{list_all, flat_map}
 use Rattle.octets.specs.Words.{bytes_of}
 
 -- "hex digits of either case .. Digits come out in capitals."
@@ -53,11 +54,9 @@ abbrev pub is_digit : ℕ → Bool
 is_digit b = leb 48 b && leb b 57
 
 -- a test holds of every byte
-unfoldable pub all : (ℕ → Bool) → List ℕ → Bool
-all test [] = true
-all test (b ∷ bs) = test b && all test bs
+abbrev pub all : (ℕ → Bool) → List ℕ → Bool
+all = list_all
 
 -- the texts of the numbers of a list, one after the other
-unfoldable pub each : (ℕ → List ℕ) → List ℕ → List ℕ
-each text [] = []
-each text (n ∷ ns) = text n ++ each text ns
+abbrev pub each : (ℕ → List ℕ) → List ℕ → List ℕ
+each = flat_map

@@ -9,7 +9,7 @@ use Rattle.line.specs.Digits.{hex_of, decimal, each}
 abbrev pub last_place : ℕ
 last_place = 0xFFFFFFFFFFFFFFFF
 
-unfoldable pub place_after : ℕ → ℕ → ℕ
+abbrev pub place_after : ℕ → ℕ → ℕ
 place_after at n = at + min n (last_place - at)
 
 -- an output with a text laid over it from a place on; the bytes for which it has no place are lost
@@ -42,7 +42,7 @@ unfoldable pub bits_set : ℕ → ℕ → ℕ → List ℕ
 bits_set bits zero n = []
 bits_set bits (suc left) n = cond (eqb (bits / 2 ^ left % 2) 1) (n ∷ []) [] ++ bits_set bits left (n + 1)
 
-unfoldable pub bits_text : ℕ → ℕ → List ℕ
+abbrev pub bits_text : ℕ → ℕ → List ℕ
 bits_text bits first = cond (eqb bits 0) (bytes_of "-") (members false (bits_set bits 64 first))
 
 -- the header bits that a low byte has: its first is bit 8
@@ -50,7 +50,7 @@ abbrev pub marks_text : ℕ → List ℕ
 marks_text low = bits_text (low * 2 ^ 56) 8
 
 -- the reason of a 7, by number and value; for the checksum "the value expected"
-unfoldable pub reason_text : ℕ → ℕ → List ℕ
+abbrev pub reason_text : ℕ → ℕ → List ℕ
 reason_text number value =
     cond (eqb number 0) []
     (cond (eqb number 1) (bytes_of "count")
@@ -63,18 +63,18 @@ abbrev pub word_line : List ℕ → List ℕ → List ℕ
 word_line word numbers = word ++ each spaced numbers ++ bytes_of "\n"
 
 -- "Output `TC`, BC1 in two digits, code in decimal"
-unfoldable pub answer_text : ℕ → ℕ → List ℕ
+abbrev pub answer_text : ℕ → ℕ → List ℕ
 answer_text bc1 code = bytes_of "TC " ++ hex_of bc1 ++ spaced code ++ bytes_of "\n"
 
 -- "then `ST` or `DU` and hex digits if there is an answer"
 abbrev pub kind_text : Bool → List ℕ
 kind_text status = cond status (bytes_of "ST ") (bytes_of "DU ")
 
-unfoldable pub block_text : Bool → List ℕ → List ℕ
+abbrev pub block_text : Bool → List ℕ → List ℕ
 block_text status bytes = kind_text status ++ each hex_of bytes ++ bytes_of "\n"
 
 -- "Steps print `IDLE`, `ENTER s` .. in decimal."
-unfoldable pub event_text : ℕ → Event → List ℕ
+abbrev pub event_text : ℕ → Event → List ℕ
 event_text count event = word_line (shown_as count event).word (shown_as count event).values
 
 -- "Other lines print `BAD`."

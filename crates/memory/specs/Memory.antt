@@ -1,12 +1,9 @@
 -- Bytes and memory: the tables' places, addresses and ranges, the part that a range shows, and what a write leaves.
-use Rattle.std.specs.Prelude.{ℕ, ◌+◌, ◌*◌, ◌-◌, Bool, true, false, cond, not, ◌&&◌, ◌||◌, List, [], ◌∷◌, ◌++◌, ltb, leb, eqb, length, take, drop}
+use Rattle.std.specs.Prelude.{ℕ, ◌+◌, ◌*◌, ◌-◌, Bool, true, false, cond, not, ◌&&◌, ◌||◌, List, [], ◌∷◌, ◌++◌, ltb, leb, eqb, length, take, drop, Option, Some, None}
 use Rattle.octets.specs.Rows.{Row, row, first_code}
 use Rattle.memory.specs.declared.Format.{Format}
 use Rattle.memory.specs.declared.Place.{Place}
-use Rattle.memory.specs.declared.Placed.{Placed}
-use Rattle.memory.specs.declared.Placed.TheVariants.{At, Outside}
-use Rattle.memory.specs.declared.Addressed.{Addressed}
-use Rattle.memory.specs.declared.Addressed.TheVariants.{Known, Nowhere}
+use Rattle.memory.specs.declared.Address.{Address}
 use Rattle.memory.specs.declared.Range.{Range}
 use Rattle.memory.specs.declared.Range.TheVariants.{Sequences, LineLists, Wrong}
 
@@ -41,12 +38,12 @@ tables_wrong F seqs lists = not (fills F) || (not (eqb (length seqs) 16384) || n
 abbrev pub place_at : ℕ → Place
 place_at n = record { 0 = n }
 
-abbrev pub place_of : Format → ℕ → Placed
-place_of F n = cond (ltb n F.size) (At (place_at n)) Outside
+abbrev pub place_of : Format → ℕ → Option Place
+place_of F n = cond (ltb n F.size) (Some (place_at n)) None
 
 -- "addresses 0x070000 to 0x073FFF .. 0x074000 to 0x075EBF"
-abbrev pub address_of : ℕ → Addressed
-address_of n = cond (ltb n 0x070000) Nowhere (cond (ltb n 0x075EC0) (Known (record { 0 = n })) Nowhere)
+abbrev pub address_of : ℕ → Option Address
+address_of n = cond (ltb n 0x070000) None (cond (ltb n 0x075EC0) (Some (record { 0 = n })) None)
 
 -- len bytes from address a lie in the table of this size at address first
 abbrev pub within : ℕ → ℕ → ℕ → ℕ → Bool
@@ -61,9 +58,9 @@ range_of a len =
     Wrong))
 
 -- the range from an address that may be any number
-abbrev pub range_from : Addressed → ℕ → Range
-range_from Nowhere len = Wrong
-range_from (Known a) len = range_of a.0 len
+abbrev pub range_from : Option Address → ℕ → Range
+range_from None len = Wrong
+range_from (Some a) len = range_of a.0 len
 
 unfoldable pub range_at : ℕ → ℕ → Range
 range_at a len = range_from (address_of a) len

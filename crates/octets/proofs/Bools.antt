@@ -3,12 +3,13 @@
 use Prim.Native.Nat.{ℕ, zero, suc, ◌<◌}
 use native.Mathlib.Omega.{arith}
 use mathlib.Core.Path.{◌≡◌, refl, sym, subst}
-use mathlib.Core.Bool.{Bool, true, false, cond, not, ◌&&◌, ◌||◌, true≢false, and-eq-true_iff}
+use mathlib.Core.Bool.{Bool, true, false, cond, not, ◌&&◌, ◌||◌}
 use lib.Dec.{T, eqb}
 use borrow.Author.Tests.{eqb-true, eqb-false}
+use Rattle.std.proofs.lemmas.Bool.{and_parts, or_parts}
 
 pub and_both : (a b : Bool) → (a && b) ≡ true → (a ≡ true) × (b ≡ true)
-and_both a b = (and-eq-true_iff a b).0
+and_both a b = and_parts a b
 
 pub and_T : (a b : Bool) → T (a && b) → (a ≡ true) × T b
 and_T true b p = (refl, p)
@@ -19,8 +20,7 @@ pub clash : ◌≡◌ {A = ℕ} 0 1 → ⊥
 clash z = omega arith
 
 pub or-neither : (a b : Bool) → (a || b) ≡ false → (a ≡ false) × (b ≡ false)
-or-neither true b e = absurd (true≢false e)
-or-neither false b e = (refl, e)
+or-neither a b = or_parts a b
 
 module _ {A : Type 0} where
   pub or-either : (a b : Bool) → (a || b) ≡ true → (a ≡ true → A) → (b ≡ true → A) → A

@@ -1,7 +1,7 @@
 -- Laws of the definitions of specs/: what stands past the end, parts, numbers, XOR, and what a table of refusals tells.
 -- Assumes nothing.
-use Prim.Native.Nat.{ℕ, zero, suc, ◌+◌, ◌*◌, ◌-◌, ◌/◌, ◌%◌, ◌^◌, ◌≤◌, ◌<◌, min}
-use native.Mathlib.Nat.{zero-add, zero-lt-suc, add-sub_cancel_left, pow-le-pow_right, pow-suc, div-div-eq-div-mul, div-eq_of_lt, div-one}
+use Prim.Native.Nat.{ℕ, zero, suc, ◌+◌, ◌*◌, ◌-◌, ◌/◌, ◌%◌, ◌^◌, ◌≤◌, ◌<◌}
+use native.Mathlib.Nat.{zero-add, zero-lt-suc, pow-le-pow_right, pow-suc, div-div-eq-div-mul, div-eq_of_lt, div-one}
 use native.Mathlib.Numerals.{add-one}
 use native.Mathlib.Omega.{arith}
 use mathlib.Core.Path.{◌≡◌, refl, sym, ap, ap₂, ◌∙◌}
@@ -9,10 +9,11 @@ use mathlib.Core.Bool.{Bool, true, false, cond, not}
 use mathlib.Core.List.{List, [], ◌∷◌, ◌++◌}
 use mathlib.Core.Logic.{inl, inr, ◌↔◌}
 use lib.Dec.{T, ltb, eqb}
-use lib.ListN.{length, get_or, take, drop, length-drop, drop_of_length-le, get_or-eq_default}
-use lib.Seq.{drop-cons, take_all, length-take-le, get_or-take, get_or-drop}
+use lib.ListN.{length, get_or, take, drop, drop_of_length-le, get_or-eq_default}
+use lib.Seq.{drop-cons, get_or-take, get_or-drop}
 use borrow.Author.Tests.{ltb-true, ne_eqb}
-use Rattle.octets.specs.Bytes.{byte_at, word_at, triple_at, eight, number_at, xor_on}
+use Rattle.std.specs.List.{fold}
+use Rattle.octets.specs.Bytes.{byte_at, eight, number_at, xor_on}
 use Rattle.octets.specs.Rows.{Row, row, first_code, NoneHolds, FirstBears, coded}
 use Rattle.octets.proofs.Bools.{and_T}
 
@@ -20,46 +21,17 @@ use Rattle.octets.proofs.Bools.{and_T}
 pub byte_past : (s : List ℕ) (at : ℕ) → length s ≤ at → byte_at s at ≡ 0
 byte_past s at h = get_or-eq_default s 0 {n = at} h
 
-pub word-past : (s : List ℕ) (at : ℕ) → length s ≤ at → word_at s at ≡ 0
-word-past s at h = omega (arith, byte_past s at h, byte_past s (at + 1) (omega arith))
-
-pub triple-past : (s : List ℕ) (at : ℕ) → length s ≤ at → triple_at s at ≡ 0
-triple-past s at h = omega (arith, byte_past s at h, word-past s (at + 1) (omega arith))
-
--- ── parts
-take_none : (n : ℕ) → ◌≡◌ {A = List ℕ} (take n []) []
-take_none zero = refl
-take_none (suc n) = refl
-
-pub part_none : (s : List ℕ) (at len : ℕ) → length s ≤ at → [] ≡ take len (drop at s)
-part_none s at len h = sym (ap (take len) (drop_of_length-le s {i = at} h) ∙ take_none len)
-
-pub part-rest : (s : List ℕ) (at len : ℕ) → length s - at ≤ len → take (length s - at) (drop at s) ≡ take len (drop at s)
-part-rest s at len h =
-    let l = length-drop at s in
-    take_all (length s - at) (drop at s) (omega arith) ∙ sym (take_all len (drop at s) (omega arith))
-
-pub part-whole : (s : List ℕ) (at len : ℕ) → take (at + len - at) (drop at s) ≡ take len (drop at s)
-part-whole s at len = ap (λ (n : ℕ). take n (drop at s)) (add-sub_cancel_left at len)
-
 -- ── numbers
 -- of fewer than eight bytes there is room for one more
 pub number-room : (i n : ℕ) → i < 8 → n < 256 ^ i → n < 256 ^ 7
 number-room i n l h = let m : 256 ^ i ≤ 256 ^ 7 = pow-le-pow_right (zero-lt-suc 255) (let e : i ≤ 7 = omega arith in e) in omega arith
 
 -- the number in a part is the one at its place
-number-part : (s : List ℕ) (at size w : ℕ) → w ≤ size → number_at (take size (drop at s)) 0 w ≡ number_at s at w
+pub number-part : (s : List ℕ) (at size w : ℕ) → w ≤ size → number_at (take size (drop at s)) 0 w ≡ number_at s at w
 number-part s at size zero h = refl
 number-part s at size (suc w) h =
     let z = zero-add w in
     ap₂ (λ (m b : ℕ). m * 256 + b) (number-part s at size w (omega arith)) (rw z (get_or-take size (drop at s) w 0 h ∙ get_or-drop at s w 0))
-
--- as `number` reads it: all bytes of a part of at most eight
-pub part-number : (s : List ℕ) (at size : ℕ) → size ≤ 8 → at + size ≤ length s → number_at (take size (drop at s)) 0 (min (length (take size (drop at s))) 8) ≡ number_at s at size
-part-number s at size few h =
-    let l : length (take size (drop at s)) ≡ size = length-take-le size (drop at s) (let d = length-drop at s in omega arith) in
-    let m : min size 8 ≡ size = omega arith in
-    rw (l, m) (number-part s at size size (omega arith))
 
 -- a number of W bytes, from its bytes: the first w of them are its high part
 number-high : (s : List ℕ) (at W n : ℕ) → n < 256 ^ W → ((i : ℕ) → i < W → byte_at s (at + i) ≡ n / 256 ^ (W - 1 - i) % 256) → (w : ℕ) → w ≤ W → number_at s at w ≡ n / 256 ^ (W - w)
@@ -88,6 +60,12 @@ eight-byte n rest (suc (suc (suc (suc (suc (suc (suc zero))))))) l = omega arith
 eight-byte n rest (suc (suc (suc (suc (suc (suc (suc (suc i)))))))) l = absurd (omega arith)
 
 -- ── XOR
+-- the library's fold is the definition's
+pub xor_fold : (x : ℕ) (s : List ℕ) → fold lib.Bits.bit_xor x s ≡ xor_on x s
+unfolding xor_on
+xor_fold x [] = refl
+xor_fold x (b ∷ s) = xor_fold (lib.Bits.bit_xor x b) s
+
 pub xor_step : (s : List ℕ) (x i : ℕ) → i < length s → xor_on (lib.Bits.bit_xor x (get_or s i 0)) (drop (i + 1) s) ≡ xor_on x (drop i s)
 unfolding xor_on
 xor_step s x i h = rw (add-one, drop-cons s i 0)
@@ -95,12 +73,6 @@ xor_step s x i h = rw (add-one, drop-cons s i 0)
 pub xor-end : (s : List ℕ) (x i : ℕ) → length s ≤ i → xor_on x (drop i s) ≡ x
 unfolding xor_on
 xor-end s x i h = rw drop_of_length-le
-
--- the XOR of two parts, one after the other
-pub xor-append : (x : ℕ) (a b : List ℕ) → xor_on x (a ++ b) ≡ xor_on (xor_on x a) b
-unfolding xor_on
-xor-append x [] b = refl
-xor-append x (y ∷ a) b = xor-append (lib.Bits.bit_xor x y) a b
 
 -- ── ordered rows
 module _ (c : ℕ) (rs : List Row) where

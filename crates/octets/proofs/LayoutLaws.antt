@@ -1,9 +1,9 @@
 -- Laws of tables of fields, for every table that passes the test `tiles`: its fields come back out of the bytes that spell them, and bytes
 -- that are not wrong come back out of their fields. Assumes nothing.
-use Prim.Native.Nat.{ℕ, zero, suc, ◌+◌, ◌*◌, ◌-◌, ◌/◌, ◌%◌, ◌≤◌, ◌<◌}
+use Prim.Native.Nat.{ℕ, zero, suc, ◌+◌, ◌*◌, ◌-◌, ◌/◌, ◌%◌, ◌≤◌, ◌<◌, ◌^◌}
 use native.Mathlib.Omega.{arith}
 use native.Mathlib.Numerals.{add-one}
-use native.Mathlib.Nat.{add-zero, div-div-eq-div-mul, div-add-mod', mod-eq_of_lt}
+use native.Mathlib.Nat.{add-zero}
 use mathlib.Core.Path.{◌≡◌, refl, sym, ap, ap₂, subst, ◌∙◌}
 use mathlib.Core.Bool.{Bool, true, false, not}
 use mathlib.Core.List.{List, [], ◌∷◌, ◌++◌, append_assoc}
@@ -12,10 +12,12 @@ use lib.IntN.{ℤ, pos, negsuc}
 use lib.ListN.{length, get_or, drop, length-append, drop_of_length-le}
 use lib.Seq.{drop-cons, get_or-append-add}
 use borrow.Author.Tests.{lt-ltb, le-ltb, ltb-false, eqb-true, not-false}
+use Rattle.std.proofs.lemmas.Bool.{or_parts}
+use Rattle.std.proofs.lemmas.Nat.{from_be_bytes-to_be_bytes_4}
 use Rattle.octets.specs.Bytes.{byte_at, word_at, four_at, halves}
 use Rattle.octets.specs.Layout.{is_set, flag, complement, signed, SignedFits, Cell, Field, field, spelled, read_at, Fits, unlike, wrong_at, laid, reads, wrong, AllFit, tiles}
 use Rattle.octets.specs.Layout.Cell.{Byte, Word, Four, Signed, Flag, Halves, Fixed}
-use Rattle.octets.proofs.Bools.{and_T, or-neither, by-test}
+use Rattle.octets.proofs.Bools.{and_T, by-test}
 
 -- every element is a byte
 abbrev pub Octets : List ℕ → Type 0
@@ -57,7 +59,7 @@ complement-fits (negsuc n) h = omega arith
 alike : (bs : List ℕ) (at : ℕ) (s : List ℕ) → unlike bs at s ≡ false → bs ≡ bytes_at s at (length bs)
 alike [] at s e = refl
 alike (b ∷ bs) at s e =
-    let (x, y) = or-neither (not (eqb (byte_at s at) b)) (unlike bs (at + 1) s) e in
+    let (x, y) = or_parts (not (eqb (byte_at s at) b)) (unlike bs (at + 1) s) e in
     ap₂ (λ (n : ℕ) (l : List ℕ). n ∷ l) (sym (eqb-true (byte_at s at) b (not-false (eqb (byte_at s at) b) x))) (alike bs (at + 1) s y)
 
 spells-read : (s : List ℕ) → Octets s → (c : Cell) (at : ℕ) → wrong_at c at s ≡ false → spelled (read_at c at s) ≡ bytes_at s at (length (spelled c))
@@ -103,7 +105,7 @@ laid_from (f ∷ fs) s at o t e =
     let c = f.cell in
     let size = length (spelled c) in
     let (here, rest) = first f fs at (length s) t in
-    let (w, ws) = or-neither (wrong_at c f.at s) (wrong fs s) e in
+    let (w, ws) = or_parts (wrong_at c f.at s) (wrong fs s) e in
     ap (λ (l : List ℕ). spelled (read_at c f.at s) ++ l) (laid_from fs s (at + size) o rest ws)
     ∙ ap (λ (l : List ℕ). l ++ drop (at + size) s) (spells-read s o c f.at w)
     ∙ ap (λ (i : ℕ). bytes_at s i size ++ drop (at + size) s) here
@@ -118,16 +120,8 @@ flag-back : (b : Bool) → is_set (flag b) ≡ b
 flag-back true = refl
 flag-back false = refl
 
-four-back : (n : ℕ) → n < 4294967296 → n / 16777216 % 256 * 16777216 + (n / 65536 % 256 * 65536 + (n / 256 % 256 * 256 + n % 256)) ≡ n
-four-back n h =
-    let e : n / 256 / 256 ≡ n / 65536 = div-div-eq-div-mul n 256 256 in
-    let f : n / 65536 / 256 ≡ n / 16777216 = div-div-eq-div-mul n 65536 256 in
-    let a : n / 256 * 256 + n % 256 ≡ n = div-add-mod' n 256 in
-    let b : n / 256 / 256 * 256 + n / 256 % 256 ≡ n / 256 = div-add-mod' (n / 256) 256 in
-    let c : n / 65536 / 256 * 256 + n / 65536 % 256 ≡ n / 65536 = div-add-mod' (n / 65536) 256 in
-    let d : n / 16777216 < 256 = omega arith in
-    let g : n / 16777216 % 256 ≡ n / 16777216 = mod-eq_of_lt d in
-    omega arith
+four-back : (n : ℕ) → n < 2 ^ 32 → n / 16777216 % 256 * 16777216 + (n / 65536 % 256 * 65536 + (n / 256 % 256 * 256 + n % 256)) ≡ n
+four-back n h = omega (arith, from_be_bytes-to_be_bytes_4 n h)
 
 module _ (p : List ℕ) where
   -- the byte i places behind a list

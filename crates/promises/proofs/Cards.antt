@@ -1,4 +1,5 @@
 -- P13 of our library: fresh, kept, told and least, of every format. Assumes nothing.
+use Rattle.std.specs.Prelude.{Option, Some, None}
 use Prim.Native.Nat.{ℕ, zero, suc, ◌+◌, ◌*◌, ◌-◌, ◌/◌, ◌≤◌, ◌<◌}
 use native.Mathlib.Nat.{suc-mul, div-lt_iff_lt-mul, le-div_iff_mul-le}
 use native.Mathlib.Decide.{dec_lt}
@@ -13,8 +14,7 @@ use borrow.Author.Tests.{le-leb, leb-true, le-ltb, eq-eqb}
 use Rattle.octets.specs.Bytes.{byte_at, triple_at}
 use Rattle.octets.proofs.Bools.{by-test, choice, clash, and_both, or-neither}
 use Rattle.memory.specs.declared.Format.{Format}
-use Rattle.memory.specs.declared.Addressed.{Addressed}
-use Rattle.memory.specs.declared.Addressed.TheVariants.{Known, Nowhere}
+use Rattle.memory.specs.declared.Address.{Address}
 use Rattle.memory.specs.declared.Range.{Range}
 use Rattle.memory.specs.declared.Range.TheVariants.{Sequences, LineLists, Wrong}
 use Rattle.memory.specs.Memory.{fills, entry_of, tables_wrong, within, range_of, range_from, range_at, written, seqs_written, lists_written}
@@ -218,9 +218,9 @@ of-starts a len =
 range-starts : (a len : ℕ) → Starts (range_at a len) a
 unfolding range_at
 range-starts a len =
-    let P : Addressed → Type 0 = λ x. Starts (range_from x len) a in
-    choice P (ltb a 0x070000) Nowhere _ (λ _. tt)
-    (λ _. choice P (ltb a 0x075EC0) (Known (record { 0 = a })) Nowhere (λ _. of-starts a len) (λ _. tt))
+    let P : Option Address → Type 0 = λ x. Starts (range_from x len) a in
+    choice P (ltb a 0x070000) None _ (λ _. tt)
+    (λ _. choice P (ltb a 0x075EC0) (Some (record { 0 = a })) None (λ _. of-starts a len) (λ _. tt))
 
 -- a test that cannot hold
 never : (t : Bool) → (t ≡ true → ⊥) → t ≡ false

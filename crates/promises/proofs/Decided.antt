@@ -17,7 +17,7 @@ use Rattle.survey.specs.declared.Ending.TheVariants.{Unlisted, Finishes, Returns
 use Rattle.survey.specs.declared.Reason.{Reason}
 use Rattle.survey.specs.Chain.{Told}
 use Rattle.survey.specs.Report.{ending_shown}
-use Rattle.unit.specs.declared.Outcome.{Outcome}
+use Rattle.unit.specs.Step.{Outcome}
 use Rattle.promises.specs.Formats.{Fills}
 use Rattle.promises.specs.Library.{Library, ours}
 use Rattle.promises.specs.Runs.{Showing, enters, aborts}

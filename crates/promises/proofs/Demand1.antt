@@ -1,5 +1,6 @@
 -- Demand 1, proved: a code that is not 0 leaves the answer's other cases to the definitions, and a step's outcome tells which way it went.
 -- Assumes nothing.
+use Rattle.std.specs.Prelude.{Ok, Err}
 use Prim.Native.Nat.{ℕ, ◌≤◌, ◌<◌}
 use native.Mathlib.Omega.{arith}
 use mathlib.Core.Path.{◌≡◌, refl, sym, ap, subst}
@@ -17,7 +18,6 @@ use Rattle.runner.specs.declared.Stepped.{Stepped}
 use Rattle.runner.specs.Step.{to}
 use Rattle.runner.proofs.Laws.{step-idle}
 use Rattle.unit.specs.declared.Unit.{Unit as ControlUnit}
-use Rattle.unit.specs.declared.Outcome.TheVariants.{Denied, Saw}
 use Rattle.unit.specs.declared.UnitStep.{UnitStep}
 use Rattle.status.specs.State.{arrived, failed}
 use Rattle.unit.specs.State.{with_ledger}
@@ -115,7 +115,7 @@ seventeen-keeps F s e = nothing-changed s (omega arith)
 pub denied-keeps : (F : Format) → DeniedKeeps F ours
 unfolding with_step
 denied-keeps F u seqs lists c =
-    step_case F (λ (x : UnitStep). x.outcome ≡ Denied c → ((c ≡ 16) ⊎ (c ≡ 17)) × (x.unit ≡ u)) u seqs lists
+    step_case F (λ (x : UnitStep). x.outcome ≡ Err c → ((c ≡ 16) ⊎ (c ≡ 17)) × (x.unit ≡ u)) u seqs lists
     (λ e. let z : ◌≡◌ {A = ℕ} 0 1 = cc in absurd (omega arith))
     (λ e. (inl (cc), refl))
     (λ e. (inr (cc), refl))
@@ -129,7 +129,7 @@ pub idle-keeps : (F : Format) → IdleKeeps F ours
 unfolding with_step
 idle-keeps F u seqs lists h =
     let E = env_of F lists in
-    step_case F (λ (x : UnitStep). x.outcome ≡ Saw Idle → x.unit ≡ u) u seqs lists
+    step_case F (λ (x : UnitStep). x.outcome ≡ Ok Idle → x.unit ≡ u) u seqs lists
     (λ e. with-step-idle u _ (sym (step-idle E seqs u.runner (idle-stops E seqs u.runner (cc)))))
     (λ e. refl)
     (λ e. refl) (outcome-shown (ours.steps F u seqs lists).outcome idle h refl)

@@ -1,5 +1,6 @@
 -- Demand 2, proved: the theorems of Demand2 by their names, and those that lean on several of the files below.
 -- Assumes nothing.
+use Rattle.std.specs.Prelude.{Ok}
 use Prim.Native.Nat.{ℕ}
 use native.Mathlib.Omega.{arith}
 use mathlib.Core.Path.{◌≡◌, refl, sym, subst}
@@ -13,7 +14,6 @@ use Rattle.runner.specs.declared.Event.TheVariants.{Abort}
 use Rattle.runner.specs.declared.Stepped.{Stepped}
 use Rattle.runner.specs.Step.{aborted}
 use Rattle.unit.specs.declared.Unit.{Unit as ControlUnit}
-use Rattle.unit.specs.declared.Outcome.TheVariants.{Saw}
 use Rattle.unit.specs.declared.UnitStep.{UnitStep}
 use Rattle.unit.specs.State.{power_on}
 use Rattle.survey.specs.Chain.{check_rows, check_of}
@@ -68,7 +68,7 @@ pub abort-keeps : (F : Format) → AbortKeeps F ours
 unfolding with_step
 abort-keeps F u seqs lists c n p h =
     let E = env_of F lists in
-    step_case F (λ (x : UnitStep). x.outcome ≡ Saw (Abort c n p) → Aborted c n p u x.unit) u seqs lists
+    step_case F (λ (x : UnitStep). x.outcome ≡ Ok (Abort c n p) → Aborted c n p u x.unit) u seqs lists
     (λ e. let f = abort-faults E seqs u.runner c n p (cc) in with-step-abort u _ c n p f.sequence f.whole)
     (λ e. let z : ◌≡◌ {A = ℕ} 0 1 = cc in absurd (omega arith))
     (λ e. let z : ◌≡◌ {A = ℕ} 0 1 = cc in absurd (omega arith)) (outcome-shown (ours.steps F u seqs lists).outcome (aborts c n p) h refl)

@@ -13,7 +13,7 @@ use Rattle.runner.specs.declared.Runner.{Runner}
 use Rattle.survey.specs.declared.Ending.TheVariants.{Returns}
 use Rattle.survey.specs.Chain.{Told, check_of}
 use Rattle.survey.specs.Report.{ending_shown}
-use Rattle.unit.specs.declared.Outcome.{Outcome}
+use Rattle.unit.specs.Step.{Outcome}
 use Rattle.promises.specs.Runs.{AtDoor, after_steps}
 use Rattle.promises.specs.Positions.{NonePast}
 use Rattle.promises.specs.Kept.{IsPassed}

@@ -1,5 +1,6 @@
 -- Each step, proved: a command that no row refuses is judged as its act, and the act's definition does what is said.
 -- Assumes nothing.
+use Rattle.std.specs.Prelude.{Option, Some}
 use Prim.Native.Nat.{ℕ, ◌+◌, ◌<◌}
 use mathlib.Core.Path.{◌≡◌, refl, ap, subst, ◌∙◌}
 use mathlib.Core.Bool.{Bool, true, false, ◌&&◌}
@@ -20,7 +21,6 @@ use Rattle.sequence.specs.Env.{Env}
 use Rattle.sequence.proofs.Laws.{Bytes, command-bytes}
 use Rattle.runner.specs.declared.Runner.{Runner}
 use Rattle.runner.specs.declared.Opened.{Opened}
-use Rattle.runner.specs.declared.Opened.TheVariants.{Open}
 use Rattle.runner.specs.declared.Act.{Act}
 use Rattle.runner.specs.declared.Act.TheVariants.{Opens, Exposes, Loops, Waits, Calls, Ends}
 use Rattle.runner.specs.Judge.{repeat_begun, set_of, run_rows, expose_rows, close_rows, judged, judge}
@@ -85,18 +85,18 @@ module _ (E : Env) (seqs : List ℕ) (s : Runner) where
   at-terminate : Obeys E seqs s Terminate → Does Ends
   at-terminate o = step-at Terminate Ends o ((terminate-exactly E.cards text s.place (open_of E.format s)).obeyed.1 o.accepted)
 
-  module _ (time : ℕ) (r : Place) (c n : ℕ) (o : Obeys E seqs s (Expose time)) (held : open_of E.format s ≡ Open r c n) where
-    none : NoneHolds (expose_rows text time (Open r c n) ++ advance_rows text s (Open r c n))
-    none = subst (λ (x : Opened). NoneHolds (expose_rows text time x ++ advance_rows text s x)) held o.accepted
+  module _ (time : ℕ) (r : Place) (c n : ℕ) (o : Obeys E seqs s (Expose time)) (held : open_of E.format s ≡ Some (record { place = r; count = c; run = n })) where
+    none : NoneHolds (expose_rows text time (Some (record { place = r; count = c; run = n })) ++ advance_rows text s (Some (record { place = r; count = c; run = n })))
+    none = subst (λ (x : Option Opened). NoneHolds (expose_rows text time x ++ advance_rows text s x)) held o.accepted
 
     at-expose : Does (Exposes r)
     at-expose =
         step-at (Expose time) (Exposes r) o
-        (ap (λ (x : Opened). judged E.cards text s.place x (Expose time)) held
-        ∙ (expose-exactly E.cards text s.place time r c n).obeyed.1 (front-rows (expose_rows text time (Open r c n)) (advance_rows text s (Open r c n)) none))
+        (ap (λ (x : Option Opened). judged E.cards text s.place x (Expose time)) held
+        ∙ (expose-exactly E.cards text s.place time (record { place = r; count = c; run = n })).obeyed.1 (front-rows (expose_rows text time (Some (record { place = r; count = c; run = n }))) (advance_rows text s (Some (record { place = r; count = c; run = n }))) none))
 
     in_reach : (advances (raster_at text r.0) s && ltb 2400 (s.mirror + (raster_at text r.0).step)) ≡ false
-    in_reach = (back-rows (expose_rows text time (Open r c n)) (advance_rows text s (Open r c n)) none).0
+    in_reach = (back-rows (expose_rows text time (Some (record { place = r; count = c; run = n }))) (advance_rows text s (Some (record { place = r; count = c; run = n }))) none).0
 
 -- ── the commands
 pub raster-step : RasterStep ours

@@ -14,7 +14,7 @@ use Rattle.runner.specs.declared.Event.{Event}
 use Rattle.survey.specs.Turns.{turns}
 use Rattle.survey.specs.Chain.{Told}
 use Rattle.survey.specs.Report.{ending_shown}
-use Rattle.unit.specs.declared.Outcome.{Outcome}
+use Rattle.unit.specs.Step.{Outcome}
 use Rattle.promises.specs.Formats.{Fills}
 use Rattle.promises.specs.Library.{ours}
 use Rattle.promises.specs.Demand3.{World, Action, after_all, outcomes, last_of, Calling, chain_plan, AboutToEnter, NeverCalledBack, events_of, from_each, landmark, Works, All, FirstThen, ComesBack, EndsOrReturns, GoesOn, laps_plan, EveryLap}

@@ -1,6 +1,7 @@
 -- One answer, proved: each contract is an equation with a definition of specs/, so two results are equal to the same thing.
 -- Assumes nothing.
 use mathlib.Core.Path.{sym, ◌∙◌}
+use Rattle.telecommand.proofs.Laws.{same_result}
 use Rattle.promises.specs.OneAnswer.{
   OneOctetsByte,
   OneOctetsWord,
@@ -21,7 +22,7 @@ use Rattle.promises.specs.OneAnswer.{
   OneMemoryAddressNumber,
   OneMemoryAddressRange,
   OneMemoryRangeAt,
-  OneMemoryAddressedRange,
+  OneMemoryRangeFrom,
   OneMemoryRangeIsWrong,
   OneMemoryPartOf,
   OneMemoryTablesWrong,
@@ -51,9 +52,9 @@ use Rattle.promises.specs.OneAnswer.{
   OneSequenceMarksLack,
   OneSequenceListCard,
   OneSequenceBadListShown,
-  OneSequenceListCardShown,
-  OneSequenceListCardMarks,
-  OneSequenceListCardBytes,
+  OneSequenceCardShown,
+  OneSequenceMarksIn,
+  OneSequenceCardBytes,
   OneSequenceKeptCard,
   OneSequenceCardOf,
   OneSequencePast,
@@ -66,6 +67,8 @@ use Rattle.promises.specs.OneAnswer.{
   OneSurveyTakenAlone,
   OneSurveyHasList,
   OneSurveyEmpty,
+  OneSurveyUnlisted,
+  OneSurveyChainReported,
   OneSurveyTotal,
   OneSummaryLinesAt,
   OneSummaryMake,
@@ -74,6 +77,7 @@ use Rattle.promises.specs.OneAnswer.{
   OneSurveyReasonShown,
   OneSurveyStill,
   OneTelecommandTelecommandOf,
+  OneTelecommandRefusalCode,
   OneTelecommandTelecommandShapeFault,
   OneTelecommandPairAllowed,
   OneTelecommandDumpRange,
@@ -187,8 +191,8 @@ one-result-memory-Address-range κs a r r' e e' p q = p ∙ sym q
 pub one-result-memory-range-at : OneMemoryRangeAt
 one-result-memory-range-at κs a r r' e e' p q = p ∙ sym q
 
-pub one-result-memory-Addressed-range : OneMemoryAddressedRange
-one-result-memory-Addressed-range κs a r r' e e' p q = p ∙ sym q
+pub one-result-memory-range-from : OneMemoryRangeFrom
+one-result-memory-range-from κs a r r' e e' p q = p ∙ sym q
 
 pub one-result-memory-Range-is-wrong : OneMemoryRangeIsWrong
 one-result-memory-Range-is-wrong κs a r r' e e' p q = p ∙ sym q
@@ -284,14 +288,14 @@ one-result-sequence-Marks-lack κs a r r' e e' p q = p ∙ sym q
 pub one-result-sequence-BadList-shown : OneSequenceBadListShown
 one-result-sequence-BadList-shown κs a r r' e e' p q = p ∙ sym q
 
-pub one-result-sequence-ListCard-shown : OneSequenceListCardShown
-one-result-sequence-ListCard-shown κs a r r' e e' p q = p ∙ sym q
+pub one-result-sequence-card-shown : OneSequenceCardShown
+one-result-sequence-card-shown κs a r r' e e' p q = p ∙ sym q
 
-pub one-result-sequence-ListCard-marks : OneSequenceListCardMarks
-one-result-sequence-ListCard-marks κs a r r' e e' p q = p ∙ sym q
+pub one-result-sequence-marks-in : OneSequenceMarksIn
+one-result-sequence-marks-in κs a r r' e e' p q = p ∙ sym q
 
-pub one-result-sequence-ListCard-bytes : OneSequenceListCardBytes
-one-result-sequence-ListCard-bytes κs a r r' e e' p q = p ∙ sym q
+pub one-result-sequence-card-bytes : OneSequenceCardBytes
+one-result-sequence-card-bytes κs a r r' e e' p q = p ∙ sym q
 
 pub one-result-sequence-kept-card : OneSequenceKeptCard
 one-result-sequence-kept-card κs a r r' e e' p q = p ∙ sym q
@@ -331,6 +335,12 @@ one-result-survey-has-list κs a r r' e e' p q = p ∙ sym q
 pub one-result-survey-empty : OneSurveyEmpty
 one-result-survey-empty κs a r r' e e' p q = p ∙ sym q
 
+pub one-result-survey-unlisted : OneSurveyUnlisted
+one-result-survey-unlisted κs a r r' e e' p q = p ∙ sym q
+
+pub one-result-survey-Chain-reported : OneSurveyChainReported
+one-result-survey-Chain-reported κs a r r' e e' p q = p ∙ sym q
+
 pub one-result-survey-total : OneSurveyTotal
 one-result-survey-total κs a r r' e e' p q = p ∙ sym q
 
@@ -357,8 +367,11 @@ one-result-summary-check κs a r r' e e' p q = p ∙ sym q
 pub one-result-telecommand-telecommand-of : OneTelecommandTelecommandOf
 one-result-telecommand-telecommand-of κs a r r' e e' p q = p ∙ sym q
 
+pub one-result-telecommand-Refusal-code : OneTelecommandRefusalCode
+one-result-telecommand-Refusal-code κs a r r' e e' p q = p ∙ sym q
+
 pub one-result-telecommand-Telecommand-shape-fault : OneTelecommandTelecommandShapeFault
-one-result-telecommand-Telecommand-shape-fault κs a r r' e e' p q = p ∙ sym q
+one-result-telecommand-Telecommand-shape-fault κs a r r' e e' p q = same_result r r' (p ∙ sym q)
 
 pub one-result-telecommand-pair-allowed : OneTelecommandPairAllowed
 one-result-telecommand-pair-allowed κs a r r' e e' p q = p ∙ sym q

@@ -1,5 +1,6 @@
 -- Wrong libraries, refuted: each demand is asked of a library over tables and packets that are written out, and what it says of them computes to
 -- something false. Assumes nothing.
+use Rattle.std.specs.Prelude.{Ok, Err}
 use Prim.Native.Nat.{ℕ, ◌+◌, ◌-◌, ◌≤◌, ◌<◌}
 use native.Mathlib.Omega.{arith}
 use mathlib.Core.Path.{◌≡◌, refl, sym, ap, subst, ◌∙◌}
@@ -33,8 +34,7 @@ use Rattle.survey.specs.Chain.{Told, told, onward, follow, chain_of, check_rows,
 use Rattle.survey.specs.Report.{EndingShown, ending_as, ending_shown, reason_of, reason_shown}
 use Rattle.survey.proofs.Listing.{among-case}
 use Rattle.unit.specs.declared.Unit.{Unit as ControlUnit}
-use Rattle.unit.specs.declared.Outcome.{Outcome}
-use Rattle.unit.specs.declared.Outcome.TheVariants.{Denied, Saw}
+use Rattle.unit.specs.Step.{Outcome}
 use Rattle.unit.specs.State.{power_on, runs_wrong, range_tests, out_of_range, moded, selected}
 use Rattle.telecommand.specs.Packet.{telecommand_of}
 use Rattle.unit.specs.Packet.{own_rows, lent_wrong, packet_rows, code_of}
@@ -163,8 +163,8 @@ pub unit-idling-fails : UnitIdlingFails
 unit-idling-fails L x takes entering = not-both (L.steps flight unit (seqs terminates) (lists [])).outcome (x unit (seqs terminates) (lists [])) (unit-enters L takes entering).0
   where
     not-both : (o : Outcome) → Showing o idle → Showing o (enters 0) → ⊥
-    not-both (Denied code) i e = i
-    not-both (Saw v) i e = let z : ◌≡◌ {A = ℕ} 0 1 = ap (λ (x : Shown). x.number) (sym (i 0) ∙ e 0) in omega arith
+    not-both (Err code) i e = i
+    not-both (Ok v) i e = let z : ◌≡◌ {A = ℕ} 0 1 = ap (λ (x : Shown). x.number) (sym (i 0) ∙ e 0) in omega arith
 
 pub unit-finishing-fails : UnitFinishingFails
 unit-finishing-fails L x takes enters = true≢false (sym (unit-enters L takes enters).1 ∙ x unit (seqs terminates) (lists []) refl refl)

@@ -1,5 +1,6 @@
 -- The sentences on the check leave no way out: a check that keeps them all tells what ours tells. In one text the rules stop at one place with
 -- one verdict; so two chains from one sequence stop at one name. Assumes nothing.
+use Rattle.std.specs.Prelude.{Option}
 use Prim.Native.Nat.{ℕ, suc}
 use native.Mathlib.Omega.{arith}
 use mathlib.Core.Path.{◌≡◌, refl, sym, ap, subst, subst₂, ◌∙◌}
@@ -46,10 +47,10 @@ bears-same c c' rs b b' = sym (bears-first rs c b) ∙ bears-first rs c' b'
 
 module _ (E : Env) (text : List ℕ) where
   -- a place at which the rules stop
-  abbrev Stops : ℕ → Opened → Type 0
+  abbrev Stops : ℕ → Option Opened → Type 0
   Stops q o = is_closing (command_at text q) ≡ false → NoneHolds (rules_at E text q o) → ⊥
 
-  stop-same : {q q' : ℕ} {o' : Opened} {p : ℕ} {o'' o : Opened} → UpTo E text q o' p o → UpTo E text q' o'' p o → Stops q o' → Stops q' o'' → (q ≡ q') × (o' ≡ o'')
+  stop-same : {q q' : ℕ} {o' : Option Opened} {p : ℕ} {o'' o : Option Opened} → UpTo E text q o' p o → UpTo E text q' o'' p o → Stops q o' → Stops q' o'' → (q ≡ q') × (o' ≡ o'')
   stop-same there there s s' = (refl, refl)
   stop-same there (next c n u) s s' = absurd (s c n)
   stop-same (next c n u) there s s' = absurd (s' c n)
@@ -59,7 +60,7 @@ module _ (E : Env) (text : List ℕ) where
   not-both code place p (inl (b, _)) = none-bears code (header_rows text) p.header b
   not-both code place p (inr b) =
       let (q, o) = stop-same p.before b.before (λ c n. true≢false (sym p.closes ∙ c)) (λ c n. none-bears code (rules_at E text place b.held) n b.broken) in
-      none-bears code (rules_at E text place b.held) (subst₂ (λ (x : ℕ) (y : Opened). NoneHolds (rules_at E text x y)) q o p.obeyed) b.broken
+      none-bears code (rules_at E text place b.held) (subst₂ (λ (x : ℕ) (y : Option Opened). NoneHolds (rules_at E text x y)) q o p.obeyed) b.broken
 
   one-fault : (c p c' p' : ℕ) → Breaks E text c p → Breaks E text c' p' → (c ≡ c') × (p ≡ p')
   one-fault c p c' p' (inl (b, e)) (inl (b', e')) =
@@ -70,7 +71,7 @@ module _ (E : Env) (text : List ℕ) where
   one-fault c p c' p' (inr b) (inr b') =
       let (q, o) =
       stop-same b.before b'.before (λ x n. none-bears c (rules_at E text p b.held) n b.broken) (λ x n. none-bears c' (rules_at E text p' b'.held) n b'.broken) in
-      (bears-same c c' (rules_at E text p' b'.held) (subst₂ (λ (x : ℕ) (y : Opened). FirstBears c (rules_at E text x y)) q o b.broken) b'.broken, q)
+      (bears-same c c' (rules_at E text p' b'.held) (subst₂ (λ (x : ℕ) (y : Option Opened). FirstBears c (rules_at E text x y)) q o b.broken) b'.broken, q)
 
 -- ── one chain, one ending
 module _ (F : Format) (lists seqs : List ℕ) where

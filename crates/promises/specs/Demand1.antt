@@ -1,11 +1,10 @@
 -- Demand 1: every call is answered, and a refusal leaves everything as it was but for what the status shows of it.
 -- Each statement in plain words and then in symbols; proofs/Demand1 has its proof, under its name (`refused-keeps : RefusedKeeps`).
-use Rattle.std.specs.Prelude.{ℕ, ◌<◌, ◌≡◌, true, List, [], ◌∷◌, ◌⊎◌}
+use Rattle.std.specs.Prelude.{ℕ, ◌<◌, ◌≡◌, true, List, [], ◌∷◌, ◌⊎◌, Err}
 use Rattle.octets.specs.Bytes.{byte_at, counted}
 use Rattle.memory.specs.declared.Format.{Format}
 use Rattle.sequence.specs.Starts.{among}
 use Rattle.unit.specs.declared.Unit.{Unit as ControlUnit}
-use Rattle.unit.specs.declared.Outcome.TheVariants.{Denied}
 use Rattle.status.specs.State.{log_of}
 use Rattle.promises.specs.Library.{Library}
 use Rattle.promises.specs.Runs.{idle, Showing}
@@ -65,7 +64,7 @@ SeventeenKeeps F L = (s : Sent F) → code L s ≡ 17 → Unchanged L s
 -- A step that is denied changes nothing in the unit, and it is denied with 16 or 17 alone. A step, a check and a window borrow their tables
 -- for reading and have no output, so there is nothing else that one of them could change.
 abbrev pub DeniedKeeps : Format → Library → Type 0
-DeniedKeeps F L = (u : ControlUnit) (seqs lists : List ℕ) (c : ℕ) → (L.steps F u seqs lists).outcome ≡ Denied c
+DeniedKeeps F L = (u : ControlUnit) (seqs lists : List ℕ) (c : ℕ) → (L.steps F u seqs lists).outcome ≡ Err c
     → ((c ≡ 16) ⊎ (c ≡ 17)) × ((L.steps F u seqs lists).unit ≡ u)
 
 -- "A step not running is idle and changes nothing."

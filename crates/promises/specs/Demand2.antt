@@ -1,6 +1,6 @@
 -- Demand 2: each answer is given exactly when document 01 gives it, and what is obeyed has the effect that it names, and no other.
 -- Each statement in plain words and then in symbols; proofs/Demand2 has its proof, under its name (`accepted-exactly : AcceptedExactly`).
-use Rattle.std.specs.Prelude.{ℕ, ◌+◌, ◌-◌, ◌≤◌, ◌<◌, ◌≡◌, true, false, cond, not, ◌&&◌, List, [], ◌∷◌, ◌++◌, ◌↔◌, ◌⊎◌, ltb, pos, length, take, drop, replicate}
+use Rattle.std.specs.Prelude.{ℕ, ◌+◌, ◌-◌, ◌≤◌, ◌<◌, ◌≡◌, true, false, cond, not, ◌&&◌, List, [], ◌∷◌, ◌++◌, ◌↔◌, ◌⊎◌, ltb, pos, length, take, drop, replicate, Ok, Err, Option, Some, None}
 use Rattle.octets.specs.Bytes.{byte_at, triple_at, two, four, halves, counted}
 use Rattle.octets.specs.Rows.{Row, row, NoneHolds, FirstBears}
 use Rattle.memory.specs.declared.Format.{Format}
@@ -13,7 +13,6 @@ use Rattle.sequence.specs.Env.{Env, env_of, text_of}
 use Rattle.runner.specs.declared.Runner.{Runner}
 use Rattle.runner.specs.declared.Event.{Event}
 use Rattle.runner.specs.declared.Opened.{Opened}
-use Rattle.runner.specs.declared.Opened.TheVariants.{Shut, Open}
 use Rattle.runner.specs.Judge.{run_rows, expose_rows, loop_rows, close_rows}
 use Rattle.runner.specs.Step.{open_of, advances}
 use Rattle.runner.specs.With.{with_sequence, with_place, with_running}
@@ -23,7 +22,6 @@ use Rattle.survey.specs.Chain.{told, chain_of, check_rows}
 use Rattle.unit.specs.declared.Unit.{Unit as ControlUnit}
 use Rattle.telecommand.specs.declared.Telecommand.{Telecommand}
 use Rattle.telecommand.specs.declared.Telecommand.TheVariants.{Status, Dump, Allow, Mode, Clear, Select, Uplink, Foreign, Unheard}
-use Rattle.unit.specs.declared.Outcome.TheVariants.{Denied, Saw}
 use Rattle.status.specs.State.{log_of, watched}
 use Rattle.unit.specs.State.{out_of_range}
 use Rattle.telecommand.specs.Packet.{telecommand_of}
@@ -54,7 +52,7 @@ CodeExactly F L = (s : Sent F) (c : ℕ) → 0 < c → (code L s ≡ c) ↔ Firs
 -- two kinds, 0 and 1. What 16 leaves as it was is demand 1's.
 pub record Sixteen (L : Library) (F : Format) : Type 0 where
   pub packet : (s : Sent F) → code L s ≡ 16
-  pub step : (u : ControlUnit) (seqs lists : List ℕ) → (L.steps F u seqs lists).outcome ≡ Denied 16
+  pub step : (u : ControlUnit) (seqs lists : List ℕ) → (L.steps F u seqs lists).outcome ≡ Err 16
   pub check : (seqs lists : List ℕ) (n : ℕ) → L.checks F seqs lists n ≡ told [] (Unlisted 16) 0 0
   pub window : (seqs lists : List ℕ) (a len : ℕ) → L.window_code F seqs lists a len ≡ 16
 
@@ -352,17 +350,17 @@ PowersOn L =
 -- A step of the unit is denied with 16, then 17, exactly by its two rows; with none of them something is seen.
 abbrev pub StepAcceptedExactly : Format → Library → Type 0
 StepAcceptedExactly F L = (u : ControlUnit) (seqs lists : List ℕ)
-    → ((L.steps F u seqs lists).outcome ≡ Saw (L.runs (env_of F lists) seqs u.runner).event) ↔ NoneHolds (step_rows F u seqs lists)
+    → ((L.steps F u seqs lists).outcome ≡ Ok (L.runs (env_of F lists) seqs u.runner).event) ↔ NoneHolds (step_rows F u seqs lists)
 
 abbrev pub StepCodeExactly : Format → Library → Type 0
-StepCodeExactly F L = (u : ControlUnit) (seqs lists : List ℕ) (c : ℕ) → 0 < c → ((L.steps F u seqs lists).outcome ≡ Denied c) ↔ FirstBears c (step_rows F u seqs lists)
+StepCodeExactly F L = (u : ControlUnit) (seqs lists : List ℕ) (c : ℕ) → 0 < c → ((L.steps F u seqs lists).outcome ≡ Err c) ↔ FirstBears c (step_rows F u seqs lists)
 
 -- What is not denied is the interpreter's step: its event is seen, the unit keeps its runner, and the status takes what the event shows: a run
 -- raster's line list, one exposure more (wrapping), an abort's code. EachStep says what that step is, command by command.
 abbrev pub StepTakes : Format → Library → Type 0
 StepTakes F L = (u : ControlUnit) (seqs lists : List ℕ) → NoneHolds (step_rows F u seqs lists)
     → let r = L.runs (env_of F lists) seqs u.runner in
-    ((L.steps F u seqs lists).outcome ≡ Saw r.event)
+    ((L.steps F u seqs lists).outcome ≡ Ok r.event)
     × ((L.steps F u seqs lists).unit.runner ≡ r.runner)
     × ((L.steps F u seqs lists).unit.watch ≡ watched r.event u.watch)
 
@@ -378,9 +376,9 @@ IdleExactly L = (E : Env) (seqs : List ℕ) (s : Runner) → ShownAs (L.runs E s
 
 -- The rows that refuse the command at the runner's place, in the order of document 01 (runner/specs/Judge). Two rows look at more than the
 -- text: the advance "past 2400: 14", and "else call above 127 gives 4", which is a matter of the last round alone.
-abbrev pub advance_rows : List ℕ → Runner → Opened → List Row
-advance_rows text s Shut = []
-advance_rows text s (Open r c n) = row 14 (advances (raster_at text r.0) s && ltb 2400 (s.mirror + (raster_at text r.0).step)) ∷ []
+abbrev pub advance_rows : List ℕ → Runner → Option Opened → List Row
+advance_rows text s None = []
+advance_rows text s (Some o) = row 14 (advances (raster_at text o.place.0) s && ltb 2400 (s.mirror + (raster_at text o.place.0).step)) ∷ []
 
 abbrev pub call_rows : Format → Runner → ℕ → List Row
 call_rows F s n = row 4 (not (ltb 1 s.rounds) && ltb F.last n) ∷ []

@@ -1,14 +1,13 @@
 -- Demand 3: what the table check promises of the unit. Each definition says a part of it, in plain words and then in symbols.
 -- It is a statement of any library L: of its check, its step and what its packets leave (Library).
-use Rattle.std.specs.Prelude.{ℕ, zero, suc, ◌+◌, ◌*◌, ◌/◌, ◌≤◌, ◌<◌, ◌≡◌, true, false, cond, ◌||◌, List, [], ◌∷◌, ◌++◌, ◌⊎◌, ℤ, pos, ◌+ℤ◌, length}
+use Rattle.std.specs.Prelude.{ℕ, zero, suc, ◌+◌, ◌*◌, ◌/◌, ◌≤◌, ◌<◌, ◌≡◌, true, false, cond, ◌||◌, List, [], ◌∷◌, ◌++◌, ◌⊎◌, ℤ, pos, ◌+ℤ◌, length, Ok, Err}
 use Rattle.octets.specs.Bytes.{byte_at}
 use Rattle.memory.specs.declared.Format.{Format}
 use Rattle.memory.specs.Memory.{entry_of, list_of}
 use Rattle.sequence.specs.declared.Command.{Command}
 use Rattle.sequence.specs.declared.Command.TheVariants.{RunRaster, CallSequence, Terminate}
 use Rattle.sequence.specs.declared.Fault.{Fault}
-use Rattle.sequence.specs.declared.ListCard.{ListCard}
-use Rattle.sequence.specs.declared.ListCard.TheVariants.{Good, Bad}
+use Rattle.sequence.specs.LineList.{ListCard}
 use Rattle.sequence.specs.declared.RasterWords.{RasterWords}
 use Rattle.sequence.specs.Text.{command_at}
 use Rattle.sequence.specs.Starts.{starts_of, rasters_among, among}
@@ -25,8 +24,7 @@ use Rattle.survey.specs.Items.{position_at}
 use Rattle.survey.specs.Chain.{Told}
 use Rattle.survey.specs.Report.{ending_as, ending_shown}
 use Rattle.unit.specs.declared.Unit.{Unit as ControlUnit}
-use Rattle.unit.specs.declared.Outcome.{Outcome}
-use Rattle.unit.specs.declared.Outcome.TheVariants.{Denied, Saw}
+use Rattle.unit.specs.Step.{Outcome}
 use Rattle.promises.specs.Runs.{is_a, Showing, idle, enters, aborts, quiet, position_shown, AtDoor}
 use Rattle.promises.specs.Positions.{NonePast}
 use Rattle.promises.specs.Library.{Library}
@@ -120,8 +118,8 @@ Terminating F seqs n = closing_of (entry_of F seqs n) ≡ Terminate
 -- The reason for which a run raster is refused with code 7, by what the test of its line list answers and by its science flags. "The line list
 -- test is to say which": it is what makes the list bad. Where the list is good it is a mark: one that a flag needs is missing.
 abbrev pub SevenFor : ListCard → ℕ → Reason → Type 0
-SevenFor (Bad bad) science reason = reason ≡ OfList bad
-SevenFor (Good marks) science reason = (reason ≡ Mark) × (mark_missing marks science ≡ true)
+SevenFor (Err bad) science reason = reason ≡ OfList bad
+SevenFor (Ok marks) science reason = (reason ≡ Mark) × (mark_missing marks science ≡ true)
 
 -- What the fault in a text tells besides its code and place. A fault with code 7 is at a run raster, and its reason is that of the line list
 -- which this run raster names. A fault with another code has none.
@@ -209,8 +207,8 @@ ChainPositioned F seqs (n ∷ ns) =
 -- The events of the steps that were not denied.
 abbrev pub events_of : List Outcome → List Event
 events_of [] = []
-events_of (Denied code ∷ os) = events_of os
-events_of (Saw e ∷ os) = e ∷ events_of os
+events_of (Err code ∷ os) = events_of os
+events_of (Ok e ∷ os) = e ∷ events_of os
 
 -- What each of these events shows, one after another.
 abbrev pub from_each : {A : Type 0} → (Event → List A) → List Event → List A
@@ -227,8 +225,8 @@ exposed_positions es = from_each position_shown es
 
 -- A step goes well if it is neither denied nor an abort. It works if it is not idle either.
 abbrev pub GoesWell : Outcome → Type 0
-GoesWell (Denied code) = ⊥
-GoesWell (Saw e) = quiet e ≡ true
+GoesWell (Err code) = ⊥
+GoesWell (Ok e) = quiet e ≡ true
 
 abbrev pub IsIdle : Outcome → Type 0
 IsIdle o = Showing o idle

@@ -1,6 +1,6 @@
 -- The check, sentence by sentence, from the bytes of the tables alone. Each statement in plain words and then in symbols; proofs/EachCheck has its
 -- proof, under its name.
-use Rattle.std.specs.Prelude.{ℕ, suc, ◌+◌, ◌*◌, ◌≤◌, ◌<◌, ◌≡◌, Bool, true, false, cond, ◌&&◌, ◌||◌, List, [], ◌∷◌, ◌++◌, ◌⊎◌, ltb, leb, eqb, length}
+use Rattle.std.specs.Prelude.{ℕ, suc, ◌+◌, ◌*◌, ◌≤◌, ◌<◌, ◌≡◌, Bool, true, false, cond, ◌&&◌, ◌||◌, List, [], ◌∷◌, ◌++◌, ◌⊎◌, ltb, leb, eqb, length, Option, Some, None}
 use Rattle.octets.specs.Bytes.{byte_at}
 use Rattle.octets.specs.Rows.{Row, row, NoneHolds, FirstBears}
 use Rattle.memory.specs.declared.Format.{Format}
@@ -12,7 +12,6 @@ use Rattle.sequence.specs.Starts.{starts_of, rasters_among, among}
 use Rattle.sequence.specs.Raster.{raster_at}
 use Rattle.sequence.specs.Env.{Env, env_of}
 use Rattle.runner.specs.declared.Opened.{Opened}
-use Rattle.runner.specs.declared.Opened.TheVariants.{Shut, Open}
 use Rattle.runner.specs.Judge.{run_rows, expose_rows, loop_rows, close_rows}
 use Rattle.survey.specs.declared.Ending.{Ending}
 use Rattle.survey.specs.declared.Ending.TheVariants.{Unlisted}
@@ -43,7 +42,7 @@ CheckSeven L = (F : Format) (seqs lists : List ℕ) (n : ℕ) → Fills F → le
 
 -- The rules for the command at a place, by ordered rows (runner/specs/Judge), where o is the raster that the commands before it leave open. The
 -- check has no rounds: it takes a call above the last number as the last round does.
-abbrev pub rules_for : Env → List ℕ → ℕ → Opened → Command → List Row
+abbrev pub rules_for : Env → List ℕ → ℕ → Option Opened → Command → List Row
 rules_for E text p o RunRaster = run_rows E.cards text p o
 rules_for E text p o (Expose time) = expose_rows text time o
 rules_for E text p o (LoopBack target) = loop_rows text p target o
@@ -54,14 +53,14 @@ rules_for E text p o Nothing = row 3 true ∷ []
 rules_for E text p o Unknown = row 3 true ∷ []
 rules_for E text p o Unfit = row 3 true ∷ []
 
-abbrev pub rules_at : Env → List ℕ → ℕ → Opened → List Row
+abbrev pub rules_at : Env → List ℕ → ℕ → Option Opened → List Row
 rules_at E text p o = rules_for E text p o (command_at text p)
 
 -- The raster that is open after the command at p: a run raster opens one, an expose is one exposure more in it, a loop back closes it.
-abbrev pub open_after : List ℕ → ℕ → Opened → Command → Opened
-open_after text p o RunRaster = Open (place_at p) 0 0
+abbrev pub open_after : List ℕ → ℕ → Option Opened → Command → Option Opened
+open_after text p o RunRaster = Some (record { place = place_at p; count = 0; run = 0 })
 open_after text p o (Expose time) = one_more o
-open_after text p o (LoopBack target) = Shut
+open_after text p o (LoopBack target) = None
 open_after text p o (CallSequence n) = o
 open_after text p o Terminate = o
 open_after text p o (Delay time) = o
@@ -73,25 +72,25 @@ abbrev pub is_closing : Command → Bool
 is_closing command = eqb (number_of command) (number_of (CallSequence 0)) || eqb (number_of command) (number_of Terminate)
 
 -- In text order: from p on, with o open, each command passes the rules and none is the closing one, up to the place q, where o' is open.
-pub data UpTo (E : Env) (text : List ℕ) (q : ℕ) (o' : Opened) : ℕ → Opened → Type 0 where
+pub data UpTo (E : Env) (text : List ℕ) (q : ℕ) (o' : Option Opened) : ℕ → Option Opened → Type 0 where
   there : UpTo E text q o' q o'
-  next : {p : ℕ} {o : Opened} → is_closing (command_at text p) ≡ false → NoneHolds (rules_at E text p o)
+  next : {p : ℕ} {o : Option Opened} → is_closing (command_at text p) ≡ false → NoneHolds (rules_at E text p o)
       → UpTo E text q o' (p + size_at text p) (open_after text p o (command_at text p)) → UpTo E text q o' p o
 
 -- A sequence passes the rules: its header does, and its commands do from place 4 on through the closing one.
 pub record Passes (E : Env) (text : List ℕ) : Type 0 where
   pub header : NoneHolds (header_rows text)
   pub last : ℕ
-  pub held : Opened
-  pub before : UpTo E text last held 4 Shut
+  pub held : Option Opened
+  pub before : UpTo E text last held 4 None
   pub closes : is_closing (command_at text last) ≡ true
   pub obeyed : NoneHolds (rules_at E text last held)
 
 -- It breaks them with this code at this place: a row of its header is the first, or one of the command there, and all before it passes.
 pub record BreaksAt (E : Env) (text : List ℕ) (code place : ℕ) : Type 0 where
   pub header : NoneHolds (header_rows text)
-  pub held : Opened
-  pub before : UpTo E text place held 4 Shut
+  pub held : Option Opened
+  pub before : UpTo E text place held 4 None
   pub broken : FirstBears code (rules_at E text place held)
 
 abbrev pub Breaks : Env → List ℕ → ℕ → ℕ → Type 0

@@ -1,6 +1,6 @@
 -- Demand 2, each step: what the interpreter does at each command that no row refuses, and when it enters a sequence. What is refused, and
 -- with which code, is said in Demand2. Each statement in plain words and then in symbols; proofs/EachStep has its proof, under its name.
-use Rattle.std.specs.Prelude.{ℕ, ◌+◌, ◌-◌, ◌≤◌, ◌<◌, ◌≡◌, true, false, cond, List, [], ◌∷◌, pos, ◌+ℤ◌}
+use Rattle.std.specs.Prelude.{ℕ, ◌+◌, ◌-◌, ◌≤◌, ◌<◌, ◌≡◌, true, false, cond, List, [], ◌∷◌, pos, ◌+ℤ◌, Some}
 use Rattle.octets.specs.Bytes.{byte_at, counted}
 use Rattle.octets.specs.Rows.{NoneHolds}
 use Rattle.memory.specs.declared.Place.{Place}
@@ -11,7 +11,6 @@ use Rattle.sequence.specs.Raster.{raster_at, shift_of, start_of}
 use Rattle.sequence.specs.Env.{Env, text_of}
 use Rattle.runner.specs.declared.Runner.{Runner}
 use Rattle.runner.specs.declared.Stepped.{Stepped}
-use Rattle.runner.specs.declared.Opened.TheVariants.{Open}
 use Rattle.runner.specs.Judge.{is_open, repeat_begun, set_of}
 use Rattle.runner.specs.Events.{Shown, shows, shown_as}
 use Rattle.runner.specs.Step.{open_of}
@@ -73,13 +72,13 @@ RasterStep L = (E : Env) (seqs : List ℕ) (s : Runner) → Obeys E seqs s RunRa
 -- "Expose": one exposure more in the set, where the mirror stands. "When this fills the set and passes remain, the mirror advances one step
 -- after it": then and only then.
 abbrev pub ExposeAdvances : Library → Type 0
-ExposeAdvances L = (E : Env) (seqs : List ℕ) (s : Runner) (time : ℕ) (r : Place) (c n : ℕ) → Obeys E seqs s (Expose time) → open_of E.format s ≡ Open r c n
+ExposeAdvances L = (E : Env) (seqs : List ℕ) (s : Runner) (time : ℕ) (r : Place) (c n : ℕ) → Obeys E seqs s (Expose time) → open_of E.format s ≡ Some (record { place = r; count = c; run = n })
     → let raster = raster_at (here E seqs s) r.0 in
     1 < s.raster.passes → s.raster.count + 1 ≡ set_of raster
     → Takes (L.runs E seqs s) (λ count. shows "EXP" 3 (count ∷ s.mirror ∷ [])) (with_place (next E seqs s) (with_raster (with_count (s.raster.count + 1) s.raster) (with_mirror (s.mirror + raster.step) s)))
 
 abbrev pub ExposeStays : Library → Type 0
-ExposeStays L = (E : Env) (seqs : List ℕ) (s : Runner) (time : ℕ) (r : Place) (c n : ℕ) → Obeys E seqs s (Expose time) → open_of E.format s ≡ Open r c n
+ExposeStays L = (E : Env) (seqs : List ℕ) (s : Runner) (time : ℕ) (r : Place) (c n : ℕ) → Obeys E seqs s (Expose time) → open_of E.format s ≡ Some (record { place = r; count = c; run = n })
     → let raster = raster_at (here E seqs s) r.0 in
     (1 < s.raster.passes → s.raster.count + 1 ≡ set_of raster → ⊥)
     → Takes (L.runs E seqs s) (λ count. shows "EXP" 3 (count ∷ s.mirror ∷ [])) (with_place (next E seqs s) (with_raster (with_count (s.raster.count + 1) s.raster) s))

@@ -1,9 +1,8 @@
 -- The science flags as a table: what a run raster is answered for each set of flags over a good line list with each set of marks, where
 -- nothing else is wrong with it.
-use Rattle.std.specs.Prelude.{ℕ, ◌+◌, ◌*◌, ◌/◌, ◌%◌, ◌≤◌, ◌<◌, ◌≡◌, Bool, false, cond, List, [], ◌∷◌, get_or, replicate}
+use Rattle.std.specs.Prelude.{ℕ, ◌+◌, ◌*◌, ◌/◌, ◌%◌, ◌≤◌, ◌<◌, ◌≡◌, Bool, false, cond, List, [], ◌∷◌, get_or, replicate, Ok, Option}
 use Rattle.octets.specs.Rows.{first_code, NoneHolds}
-use Rattle.sequence.specs.declared.ListCard.{ListCard}
-use Rattle.sequence.specs.declared.ListCard.TheVariants.{Good}
+use Rattle.sequence.specs.LineList.{ListCard}
 use Rattle.sequence.specs.declared.Marks.{Marks}
 use Rattle.sequence.specs.Raster.{raster_at}
 use Rattle.runner.specs.declared.Opened.{Opened}
@@ -49,7 +48,7 @@ in_table marks science = get_or (get_or flag_table (science / 4 % 16) []) (bit m
 -- A run raster with any of the 256 science bytes, over a good line list with any marks, is answered as the table has it, where no other raster is
 -- open and its counts and its path are not refused.
 abbrev pub FlagsAsTabled : Type 0
-FlagsAsTabled = (cards : ℕ → ListCard) (text : List ℕ) (p : ℕ) (o : Opened) (marks : Marks) → let raster = raster_at text p in open_elsewhere p o ≡ false
+FlagsAsTabled = (cards : ℕ → ListCard) (text : List ℕ) (p : ℕ) (o : Option Opened) (marks : Marks) → let raster = raster_at text p in open_elsewhere p o ≡ false
     → NoneHolds (count_rows raster) → NoneHolds (path_rows raster (repeat_begun o))
-    → raster.list ≤ 47 → cards raster.list ≡ Good marks → raster.science < 256
+    → raster.list ≤ 47 → cards raster.list ≡ Ok marks → raster.science < 256
     → first_code (run_rows cards text p o) ≡ in_table marks raster.science

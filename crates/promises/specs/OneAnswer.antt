@@ -3,22 +3,22 @@
 -- The statements are over the contracts themselves: `Learnt` is what a caller learns of a function from its `ensures`, as Rattle reads it from
 -- the source. proofs/OneAnswer proves each under the name of its function.
 -- The exports of `keel_c` have the clauses of `keel`'s functions, word for word, so what stands here of these holds of them.
-use Rattle.std.specs.Prelude.{ℕ, ◌≡◌, Bool, List}
+use Rattle.std.specs.Prelude.{⊤, ℕ, ◌≡◌, Bool, List, Option, Result}
 use contract.Lifetimes.{Lfts}
 use denote.Triple.Clauses.{AtExit}
 use borrow.Fn.Kinds.{ParamKind, ResultKind, Out, Dens, res_t, ended_of}
 use Rattle.octets.proofs as octets
 use Rattle.memory.proofs as memory
 use Rattle.memory.specs.declared.Format.{Format}
-use Rattle.memory.specs.declared.Placed.{Placed}
-use Rattle.memory.specs.declared.Addressed.{Addressed}
+use Rattle.memory.specs.declared.Place.{Place}
+use Rattle.memory.specs.declared.Address.{Address}
 use Rattle.memory.specs.declared.Range.{Range}
+use Rattle.sequence.specs.declared.Fault.{Fault}
 use Rattle.sequence.proofs as sequence
-use Rattle.sequence.specs.declared.Header.{Header}
 use Rattle.sequence.specs.declared.Command.{Command}
 use Rattle.sequence.specs.declared.RasterWords.{RasterWords}
 use Rattle.sequence.specs.declared.Marks.{Marks}
-use Rattle.sequence.specs.declared.ListCard.{ListCard}
+use Rattle.sequence.specs.LineList.{ListCard}
 use Rattle.sequence.specs.declared.ReasonNumbers.{ReasonNumbers}
 use Rattle.runner.proofs as runner
 use Rattle.runner.specs.declared.Act.{Act}
@@ -29,7 +29,7 @@ use Rattle.survey.specs.declared.Alone.{Alone}
 use Rattle.survey.specs.declared.Chain.{Chain}
 use Rattle.survey.specs.declared.Report.{Report}
 use Rattle.survey.specs.declared.Standing.{Standing}
-use Rattle.survey.specs.declared.Walked.{Walked}
+use Rattle.survey.specs.Report.{Walked}
 use Rattle.summary.proofs as summary
 use Rattle.telecommand.proofs as telecommand
 use Rattle.status.proofs as status
@@ -38,10 +38,10 @@ use Rattle.status.specs.declared.Watch.{Watch}
 use Rattle.unit.proofs as unit
 use Rattle.line.proofs as line
 use Rattle.line.specs.declared.Line.{Line}
-use Rattle.line.specs.declared.Numeral.{Numeral}
 use Rattle.state.proofs as state
 use Rattle.keel.proofs as keel
 use Rattle.unit.specs.declared.Unit.{Unit as ControlUnit}
+use Rattle.telecommand.specs.declared.Refusal.{Refusal}
 use Rattle.telecommand.specs.declared.Telecommand.{Telecommand}
 use Rattle.unit.specs.declared.Answer.{Answer}
 use Rattle.unit.specs.declared.UnitStep.{UnitStep}
@@ -97,13 +97,13 @@ abbrev pub OneMemoryFormatOf : Type 0
 OneMemoryFormatOf = One Format memory.Format.of.Kinds.ps memory.Format.of.Kinds.r memory.Format.of.Reads.Learnt (λ κs r e. r)
 
 abbrev pub OneMemoryPlaceOf : Type 0
-OneMemoryPlaceOf = One Placed memory.Place.of.Kinds.ps memory.Place.of.Kinds.r memory.Place.of.Reads.Learnt (λ κs r e. r)
+OneMemoryPlaceOf = One (Option Place) memory.Place.of.Kinds.ps memory.Place.of.Kinds.r memory.Place.of.Reads.Learnt (λ κs r e. r)
 
 abbrev pub OneMemoryPlaceNumber : Type 0
 OneMemoryPlaceNumber = One ℕ memory.Place.number.Kinds.ps memory.Place.number.Kinds.r memory.Place.number.Reads.Learnt (λ κs r e. r)
 
 abbrev pub OneMemoryAddressOf : Type 0
-OneMemoryAddressOf = One Addressed memory.Address.of.Kinds.ps memory.Address.of.Kinds.r memory.Address.of.Reads.Learnt (λ κs r e. r)
+OneMemoryAddressOf = One (Option Address) memory.Address.of.Kinds.ps memory.Address.of.Kinds.r memory.Address.of.Reads.Learnt (λ κs r e. r)
 
 abbrev pub OneMemoryAddressNumber : Type 0
 OneMemoryAddressNumber = One ℕ memory.Address.number.Kinds.ps memory.Address.number.Kinds.r memory.Address.number.Reads.Learnt (λ κs r e. r)
@@ -114,8 +114,8 @@ OneMemoryAddressRange = One Range memory.Address.range.Kinds.ps memory.Address.r
 abbrev pub OneMemoryRangeAt : Type 0
 OneMemoryRangeAt = One Range memory.range_at.Kinds.ps memory.range_at.Kinds.r memory.range_at.Reads.Learnt (λ κs r e. r)
 
-abbrev pub OneMemoryAddressedRange : Type 0
-OneMemoryAddressedRange = One Range memory.Addressed.range.Kinds.ps memory.Addressed.range.Kinds.r memory.Addressed.range.Reads.Learnt (λ κs r e. r)
+abbrev pub OneMemoryRangeFrom : Type 0
+OneMemoryRangeFrom = One Range memory.range_from.Kinds.ps memory.range_from.Kinds.r memory.range_from.Reads.Learnt (λ κs r e. r)
 
 abbrev pub OneMemoryRangeIsWrong : Type 0
 OneMemoryRangeIsWrong = One Bool memory.Range.is_wrong.Kinds.ps memory.Range.is_wrong.Kinds.r memory.Range.is_wrong.Reads.Learnt (λ κs r e. r)
@@ -182,7 +182,7 @@ abbrev pub OneSequenceXorGood : Type 0
 OneSequenceXorGood = One Bool sequence.xor_good.Kinds.ps sequence.xor_good.Kinds.r sequence.xor_good.Reads.Learnt (λ κs r e. r)
 
 abbrev pub OneSequenceHeaderOf : Type 0
-OneSequenceHeaderOf = One Header sequence.header_of.Kinds.ps sequence.header_of.Kinds.r sequence.header_of.Reads.Learnt (λ κs r e. r)
+OneSequenceHeaderOf = One (Result ℕ Fault) sequence.header_of.Kinds.ps sequence.header_of.Kinds.r sequence.header_of.Reads.Learnt (λ κs r e. r)
 
 abbrev pub OneSequenceCommandAt : Type 0
 OneSequenceCommandAt = One Command sequence.command_at.Kinds.ps sequence.command_at.Kinds.r sequence.command_at.Reads.Learnt (λ κs r e. r)
@@ -211,14 +211,14 @@ OneSequenceMarksLack = One Bool sequence.Marks.lack.Kinds.ps sequence.Marks.lack
 abbrev pub OneSequenceBadListShown : Type 0
 OneSequenceBadListShown = One ReasonNumbers sequence.BadList.shown.Kinds.ps sequence.BadList.shown.Kinds.r sequence.BadList.shown.Reads.Learnt (λ κs r e. r)
 
-abbrev pub OneSequenceListCardShown : Type 0
-OneSequenceListCardShown = One ReasonNumbers sequence.ListCard.shown.Kinds.ps sequence.ListCard.shown.Kinds.r sequence.ListCard.shown.Reads.Learnt (λ κs r e. r)
+abbrev pub OneSequenceCardShown : Type 0
+OneSequenceCardShown = One ReasonNumbers sequence.card_shown.Kinds.ps sequence.card_shown.Kinds.r sequence.card_shown.Reads.Learnt (λ κs r e. r)
 
-abbrev pub OneSequenceListCardMarks : Type 0
-OneSequenceListCardMarks = One Marks sequence.ListCard.marks.Kinds.ps sequence.ListCard.marks.Kinds.r sequence.ListCard.marks.Reads.Learnt (λ κs r e. r)
+abbrev pub OneSequenceMarksIn : Type 0
+OneSequenceMarksIn = One Marks sequence.marks_in.Kinds.ps sequence.marks_in.Kinds.r sequence.marks_in.Reads.Learnt (λ κs r e. r)
 
-abbrev pub OneSequenceListCardBytes : Type 0
-OneSequenceListCardBytes = One (List ℕ) sequence.ListCard.bytes.Kinds.ps sequence.ListCard.bytes.Kinds.r sequence.ListCard.bytes.Reads.Learnt (λ κs r e. r)
+abbrev pub OneSequenceCardBytes : Type 0
+OneSequenceCardBytes = One (List ℕ) sequence.card_bytes.Kinds.ps sequence.card_bytes.Kinds.r sequence.card_bytes.Reads.Learnt (λ κs r e. r)
 
 abbrev pub OneSequenceKeptCard : Type 0
 OneSequenceKeptCard = One ListCard sequence.kept_card.Kinds.ps sequence.kept_card.Kinds.r sequence.kept_card.Reads.Learnt (λ κs r e. r)
@@ -258,6 +258,12 @@ OneSurveyHasList = One Bool survey.has_list.Kinds.ps survey.has_list.Kinds.r sur
 abbrev pub OneSurveyEmpty : Type 0
 OneSurveyEmpty = One Chain survey.empty.Kinds.ps survey.empty.Kinds.r survey.empty.Reads.Learnt (λ κs r e. r)
 
+abbrev pub OneSurveyUnlisted : Type 0
+OneSurveyUnlisted = One Report survey.unlisted.Kinds.ps survey.unlisted.Kinds.r survey.unlisted.Reads.Learnt (λ κs r e. r)
+
+abbrev pub OneSurveyChainReported : Type 0
+OneSurveyChainReported = One Report survey.Chain.reported.Kinds.ps survey.Chain.reported.Kinds.r survey.Chain.reported.Reads.Learnt (λ κs r e. r)
+
 abbrev pub OneSurveyTotal : Type 0
 OneSurveyTotal = One ℕ survey.total.Kinds.ps survey.total.Kinds.r survey.total.Reads.Learnt (λ κs r e. r)
 
@@ -284,8 +290,11 @@ OneSummaryCheck = One Report summary.check.Kinds.ps summary.check.Kinds.r summar
 abbrev pub OneTelecommandTelecommandOf : Type 0
 OneTelecommandTelecommandOf = One Telecommand telecommand.telecommand_of.Kinds.ps telecommand.telecommand_of.Kinds.r telecommand.telecommand_of.Reads.Learnt (λ κs r e. r)
 
+abbrev pub OneTelecommandRefusalCode : Type 0
+OneTelecommandRefusalCode = One ℕ telecommand.Refusal.code.Kinds.ps telecommand.Refusal.code.Kinds.r telecommand.Refusal.code.Reads.Learnt (λ κs r e. r)
+
 abbrev pub OneTelecommandTelecommandShapeFault : Type 0
-OneTelecommandTelecommandShapeFault = One ℕ telecommand.Telecommand.shape_fault.Kinds.ps telecommand.Telecommand.shape_fault.Kinds.r telecommand.Telecommand.shape_fault.Reads.Learnt (λ κs r e. r)
+OneTelecommandTelecommandShapeFault = One (Result ⊤ Refusal) telecommand.Telecommand.shape_fault.Kinds.ps telecommand.Telecommand.shape_fault.Kinds.r telecommand.Telecommand.shape_fault.Reads.Learnt (λ κs r e. r)
 
 abbrev pub OneTelecommandPairAllowed : Type 0
 OneTelecommandPairAllowed = One Bool telecommand.pair_allowed.Kinds.ps telecommand.pair_allowed.Kinds.r telecommand.pair_allowed.Reads.Learnt (λ κs r e. r)
@@ -387,7 +396,7 @@ abbrev pub OneLineIsHex : Type 0
 OneLineIsHex = One Bool line.is_hex.Kinds.ps line.is_hex.Kinds.r line.is_hex.Reads.Learnt (λ κs r e. r)
 
 abbrev pub OneLineNumber : Type 0
-OneLineNumber = One Numeral line.number.Kinds.ps line.number.Kinds.r line.number.Reads.Learnt (λ κs r e. r)
+OneLineNumber = One (Option ℕ) line.number.Kinds.ps line.number.Kinds.r line.number.Reads.Learnt (λ κs r e. r)
 
 abbrev pub OneLineBegins : Type 0
 OneLineBegins = One Bool line.begins.Kinds.ps line.begins.Kinds.r line.begins.Reads.Learnt (λ κs r e. r)

@@ -1,9 +1,8 @@
 -- Wrong libraries, and the demand that each of them does not keep. Each is a whole class: of everything that is not said of it here nothing is
 -- supposed. Each statement in plain words and then in symbols; proofs/Refuted has its proof, under its name (`refusing-fails : RefusingFails`).
-use Rattle.std.specs.Prelude.{ℕ, ◌+◌, ◌-◌, ◌≤◌, ◌<◌, ◌≡◌, true, false, cond, List, [], ◌∷◌, eqb, length, take}
+use Rattle.std.specs.Prelude.{ℕ, ◌+◌, ◌-◌, ◌≤◌, ◌<◌, ◌≡◌, true, false, cond, List, [], ◌∷◌, eqb, length, take, Ok}
 use Rattle.memory.specs.declared.Format.{Format}
 use Rattle.memory.specs.Memory.{flight, entry_of}
-use Rattle.sequence.specs.declared.ListCard.TheVariants.{Good}
 use Rattle.sequence.specs.Text.{fault}
 use Rattle.sequence.specs.Raster.{raster_at}
 use Rattle.sequence.specs.LineList.{no_marks}
@@ -216,7 +215,7 @@ repeat_at_last =
 
 -- A check that takes every line list for a good one without marks; one that tells no fault's reason; a sequence table that is written while a sequence runs.
 abbrev pub faulty_raster_passed : Library
-faulty_raster_passed = with_check (λ F seqs lists n. chain_of F (finding_of (record { format = F; cards = λ k. Good no_marks }) seqs) n)
+faulty_raster_passed = with_check (λ F seqs lists n. chain_of F (finding_of (record { format = F; cards = λ k. Ok no_marks }) seqs) n)
 
 abbrev pub unreasoned : Ending → Ending
 unreasoned (Unlisted code) = Unlisted code

@@ -1,5 +1,5 @@
 -- A run: steps one after another, none of them an abort, and what is seen of them.
-use Rattle.std.specs.Prelude.{ℕ, zero, suc, ◌≡◌, Bool, true, cond, not, List, [], ◌∷◌, ◌++◌, eqb, get_or}
+use Rattle.std.specs.Prelude.{ℕ, zero, suc, ◌≡◌, Bool, true, cond, not, List, [], ◌∷◌, ◌++◌, eqb, get_or, Ok, Err}
 use Rattle.sequence.specs.declared.Fault.{Fault}
 use Rattle.sequence.specs.Env.{Env}
 use Rattle.runner.specs.declared.Runner.{Runner}
@@ -8,8 +8,7 @@ use Rattle.runner.specs.declared.Event.{Event}
 use Rattle.runner.specs.declared.Event.TheVariants.{Abort}
 use Rattle.runner.specs.Events.{Shown, shows, shown_as}
 use Rattle.runner.specs.Step.{to, step_of}
-use Rattle.unit.specs.declared.Outcome.{Outcome}
-use Rattle.unit.specs.declared.Outcome.TheVariants.{Denied, Saw}
+use Rattle.unit.specs.Step.{Outcome}
 
 -- ── an event by the paper's number and values for it
 -- runner/specs/Events lists the word, the number and the values of each case; the count of exposures is a value of EXP alone
@@ -22,8 +21,8 @@ ShownAs e seen = (count : ℕ) → shown_as count e ≡ seen
 
 -- a step of the unit shows it: the step is not denied, and its event does
 abbrev pub Showing : Outcome → Shown → Type 0
-Showing (Denied code) seen = ⊥
-Showing (Saw e) seen = ShownAs e seen
+Showing (Err code) seen = ⊥
+Showing (Ok e) seen = ShownAs e seen
 
 abbrev pub idle : Shown
 idle = shows "IDLE" 0 []

@@ -1,100 +1,59 @@
 -- Laws of the judgement and the step: what a passed table tells, and what the code's numbers fit into. Assumes nothing.
-use Prim.Native.Nat.{ℕ, zero, suc, ◌+◌, ◌*◌, ◌-◌, ◌/◌, ◌%◌, ◌^◌, ◌≤◌, ◌<◌}
+use Prim.Native.Nat.{ℕ, suc, ◌+◌, ◌*◌, ◌-◌, ◌≤◌, ◌<◌}
 use native.Mathlib.Omega.{arith}
-use native.Mathlib.Nat.{mul-le-mul, mul-zero, div-zero, div-le_self}
 use mathlib.Core.Path.{◌≡◌, refl, sym, ap, ap₂, ◌∙◌, subst}
-use mathlib.Core.Bool.{Bool, true, false, cond, ◌&&◌}
+use mathlib.Core.Bool.{Bool, true, false, cond, ◌||◌}
 use mathlib.Core.List.{List, [], ◌∷◌, ◌++◌}
-use mathlib.Core.Logic.{⊎_elim}
-use lib.Dec.{T, ltb, leb, eqb}
-use lib.IntN.{ℤ, pos, neg_ℤ, ◌-ℤ◌, +ℤ_idl}
+use lib.Dec.{T, ltb}
 use lib.ListN.{length}
-use mir.Syntax.{w16}
-use mir.Val.{SFits, to_z, of_z}
-use mir.Facts.{to_z_pos, to_z-of_z}
-use types.Run.{OneOf}
-use denote.Enum.Declared.{tag_of}
-use borrow.Author.Rules.{sfits_of}
-use borrow.Author.Tests.{ltb-false, leb-true, leb-false, eqb-true}
-use Rattle.octets.specs.Rows.{Row, first_code, NoneHolds}
-use Rattle.octets.proofs.Laws.{none-holds, none-split}
-use Rattle.octets.proofs.Bools.{and_T, or-neither, by-test}
+use borrow.Author.Tests.{ltb-false}
+use Rattle.std.specs.Prelude.{Option, Some, None}
+use Rattle.std.proofs.lemmas.Bool.Decides.{nat_tests}
+use Rattle.octets.specs.Rows.{Row, first_code, NoneHolds, coded}
+use Rattle.octets.proofs.Laws.{none-holds, none-split, none-skipped}
+use Rattle.octets.proofs.Bools.{or-neither, by-test}
 use Rattle.memory.specs.declared.Format.{Format}
 use Rattle.memory.specs.declared.Place.{Place}
-use Rattle.memory.specs.declared.Placed.{Placed}
-use Rattle.memory.specs.declared.Placed.TheVariants.{At, Outside}
 use Rattle.memory.specs.Memory.{place_of}
 use Rattle.sequence.specs.declared.Command.{Command}
-use Rattle.sequence.specs.declared.Command.TheVariants.{RunRaster, Expose, LoopBack, CallSequence, Terminate, Delay, Nothing, Unknown, Unfit}
-use Rattle.sequence.specs.contracts.Command.{the_type}
+use Rattle.sequence.specs.declared.Command.TheVariants.{Delay}
 use Rattle.sequence.specs.declared.RasterWords.{RasterWords}
-use Rattle.sequence.specs.declared.ListCard.{ListCard}
 use Rattle.sequence.specs.Text.{row_of, fault, number_of, size_of, size_at, command_at}
-use Rattle.sequence.specs.Raster.{raster_at, needs_mark, asrc_wrong, backward, moved_by, shift_of, start_of, strays, some_strays}
-use Rattle.sequence.specs.LineList.{card_with}
+use Rattle.sequence.specs.Raster.{raster_at, needs_mark, asrc_wrong, backward, moved_by, strays, some_strays}
+use Rattle.sequence.specs.LineList.{ListCard, card_with}
 use Rattle.sequence.specs.Env.{Env, text_of}
-use Rattle.runner.specs.declared.OpenRaster.{OpenRaster}
 use Rattle.runner.specs.declared.Runner.{Runner}
 use Rattle.runner.specs.declared.Stepped.{Stepped}
-use Rattle.runner.specs.declared.Event.TheVariants.{Idle, Raster, Wait}
+use Rattle.runner.specs.declared.Event.TheVariants.{Idle, Wait}
 use Rattle.runner.specs.declared.Opened.{Opened}
-use Rattle.runner.specs.declared.Opened.TheVariants.{Shut, Open}
-use Rattle.runner.specs.declared.Act.TheVariants.{Refused}
-use Rattle.runner.specs.Judge.{is_open, repeat_begun, set_of, count_rows, list_rows, path_rows, flag_rows, raster_rows, run_rows, expose_rows, loop_rows, close_rows, judged, judge}
-use Rattle.runner.specs.Step.{to, open_by, open_of, past, aborted, entered, begun, delayed, act, step_in, step_of, Stands}
-use Rattle.runner.specs.With.{with_place, with_raster, with_mirror}
+use Rattle.runner.specs.declared.Refusal.{Refusal}
+use Rattle.runner.specs.Judge.{code_of, repeat_begun, set_of, count_rows, list_rows, path_rows, flag_rows, raster_rows, run_rows, expose_rows, judged, judge}
+use Rattle.runner.specs.Step.{to, open_of, aborted, delayed, act, step_in, step_of, Stands}
+use Rattle.runner.specs.With.{with_place}
 use Rattle.sequence.proofs.Laws.{Bytes, command-bytes, none-past}
-use Rattle.sequence.proofs.Paths.{leaves-off, start-reaches, start-forward, start_back, moved-less}
+use Rattle.sequence.proofs.Paths.{ends-decide, leaves-off, start-reaches, start-forward, moved-less}
 use Rattle.sequence.proofs.Flags.{with-shown, with-missing}
 
--- ── sums and products of the code
--- the way from the first pass to the last
-pub far-fits : (l s : ℕ) → l < 65536 → s < 65536 → (l - 1) * s ≤ 65535 * 65535
-far-fits l s h k =
-    let a : l - 1 ≤ 65535 = omega arith in
-    let b : s ≤ 65535 = omega arith in
-    mul-le-mul a b
+-- which repeats decide for all
+pub ends_decide : (raster : RasterWords) → (raster.repeats ≡ 0 → ⊥) → some_strays raster raster.repeats ≡ (strays raster 0 || strays raster (raster.repeats - 1))
+ends_decide raster n = let e : raster.repeats ≡ suc (raster.repeats - 1) = omega arith in ap (some_strays raster) e ∙ ends-decide raster (raster.repeats - 1)
 
-pub far_none : (i l s : ℕ) → l ≡ 0 → i ≡ i + (l - 1) * s
-far_none i l s e = let z : l - 1 ≡ 0 = omega arith in rw z (omega arith)
+pub none_decide : (raster : RasterWords) → raster.repeats ≡ 0 → some_strays raster raster.repeats ≡ false
+unfolding some_strays
+none_decide raster e = rw e
 
--- how far a start is moved
-pub moved-fits : (asrc skip k : ℕ) → k < 65536 → asrc % 128 * (k / skip) ≤ 127 * 65535
-moved-fits asrc skip k h =
-    let a : asrc % 128 ≤ 127 = omega arith in
-    let b : k / skip ≤ 65535 = omega (arith, div-le_self k skip) in
-    mul-le-mul a b
-
-pub moved-skipless : (asrc skip k : ℕ) → skip ≡ 0 → 0 ≡ asrc % 128 * (k / skip)
-moved-skipless asrc skip k e = rw (e, div-zero k) (sym (mul-zero (asrc % 128)))
-
--- a signed number taken off 0, as the machine's words have it
-back_is : (m : ℕ) → m ≤ 2400 → pos 0 -ℤ to_z w16 m ≡ neg_ℤ (pos m)
-back_is m h = let l : m < 2 ^ 15 = omega arith in ap (λ (z : ℤ). pos 0 -ℤ z) (to_z_pos w16 l) ∙ +ℤ_idl (neg_ℤ (pos m))
-
-neg_small : (m : ℕ) → m ≤ 2400 → SFits w16 (neg_ℤ (pos m))
-neg_small zero h = sfits_of (omega arith)
-neg_small (suc m) h = sfits_of (omega arith)
-
-pub back_fits : (m : ℕ) → m ≤ 2400 → SFits w16 (pos 0 -ℤ to_z w16 m)
-back_fits m h = rw (back_is m h) (neg_small m h)
-
-pub back-signed : (m : ℕ) → m ≤ 2400 → to_z w16 (of_z w16 (pos 0 -ℤ to_z w16 m)) ≡ neg_ℤ (pos m)
-back-signed m h = to_z-of_z (back_fits m h) ∙ back_is m h
-
-pub on-signed : (m : ℕ) → m ≤ 2400 → to_z w16 m ≡ pos m
-on-signed m h = let l : m < 2 ^ 15 = omega arith in to_z_pos w16 l
+pub ruleset ends = (ends_decide, none_decide)
 
 -- ── the rows of a path with an ASRC byte of 0
-pub path-off : (raster : RasterWords) (k : ℕ) → raster.asrc ≡ 0
+pub path_off : (raster : RasterWords) (k : ℕ) → raster.asrc ≡ 0
     → first_code (path_rows raster k)
     ≡ cond (ltb 2400 raster.initial) 14 (cond (ltb 2400 raster.step) 14 (cond (ltb 2400 (raster.initial + (raster.loops - 1) * raster.step)) 14 0))
 unfolding path_rows
-path-off raster k e =
+path_off raster k e =
     let good : asrc_wrong raster ≡ false = rw e in
     ap₂ (λ (w l : Bool). cond w 3 (cond (ltb 2400 raster.initial) 14 (cond (ltb 2400 raster.step) 14 (cond l 14 0)))) good (leaves-off raster e k)
 
--- ── a repeat whose path no row refuses, moved by m
+-- ── a repeat whose path no row refuses
 module _ (raster : RasterWords) (k : ℕ) (none : NoneHolds (path_rows raster k)) where
   pub initial-low : raster.initial ≤ 2400
   unfolding path_rows
@@ -108,24 +67,11 @@ module _ (raster : RasterWords) (k : ℕ) (none : NoneHolds (path_rows raster k)
   pub begun-stays : strays raster k ≡ false
   begun-stays = none-stray.1
 
-  module _ (m : ℕ) (is : m ≡ moved_by raster k) where
-    pub back-room : backward raster ≡ true → m ≤ raster.initial
-    back-room b = rw is (moved-less raster k begun-stays b)
-
-    pub back_start : backward raster ≡ true → raster.initial - m ≡ start_of raster k
-    back_start b = rw is (sym (start_back raster k begun-stays b))
-
-    pub back-shift : backward raster ≡ true → neg_ℤ (pos m) ≡ shift_of raster k
-    back-shift b = rw (is, b)
-
-    pub on-start : backward raster ≡ false → raster.initial + m ≡ start_of raster k
-    on-start b = rw is (sym (start-forward raster k begun-stays b))
-
-    pub on-shift : backward raster ≡ false → pos m ≡ shift_of raster k
-    on-shift b = rw (is, b)
-
-    pub moved-low : m ≤ 2400
-    moved-low = by-test (backward raster) (λ b. omega (arith, back-room b, initial-low)) (λ b. omega (arith, on-start b, start-reaches raster k begun-stays))
+  -- it is moved by less than the mirror's reach
+  pub moved-low : moved_by raster k ≤ 2400
+  moved-low =
+      by-test (backward raster) (λ b. omega (arith, moved-less raster k begun-stays b, initial-low))
+      (λ b. omega (arith, start-forward raster k begun-stays b, start-reaches raster k begun-stays))
 
 -- where no row refuses a raster, none refuses its path
 pub path-rows : (cards : ℕ → ListCard) (raster : RasterWords) (k : ℕ) → NoneHolds (raster_rows cards raster k) → NoneHolds (path_rows raster k)
@@ -136,146 +82,111 @@ path-rows cards raster k none =
     let lists = (none-split (count_rows raster) (list_rows cards raster ++ rest) none).1 in
     (none-split path (flag_rows cards raster) (none-split (list_rows cards raster) rest lists).1).0
 
-pub path-passed : (cards : ℕ → ListCard) (text : List ℕ) (p : ℕ) (o : Opened) → first_code (run_rows cards text p o) ≡ 0 → NoneHolds (path_rows (raster_at text p) (repeat_begun o))
+pub path_passed : (cards : ℕ → ListCard) (text : List ℕ) (p : ℕ) (o : Option Opened) → first_code (run_rows cards text p o) ≡ 0 → NoneHolds (path_rows (raster_at text p) (repeat_begun o))
 unfolding run_rows raster_rows path_rows
-path-passed cards text p o z = path-rows cards (raster_at text p) (repeat_begun o) (none-holds (run_rows cards text p o) tt z).1
+path_passed cards text p o z = path-rows cards (raster_at text p) (repeat_begun o) (none-holds (run_rows cards text p o) tt z).1
 
 -- ── a raster's rows, from its line list's card without the marks that no flag needs
 module _ (cards : ℕ → ListCard) (raster : RasterWords) (card : ListCard) (is : card ≡ card_with (needs_mark raster.science) (cards raster.list)) where
-  pub raster-rows : (k : ℕ) → first_code (raster_rows (λ n. card) raster k) ≡ first_code (raster_rows cards raster k)
+  pub raster_rows_of : (k : ℕ) → first_code (raster_rows (λ n. card) raster k) ≡ first_code (raster_rows cards raster k)
   unfolding raster_rows path_rows
-  raster-rows k = rw (is, with-shown (needs_mark raster.science) (cards raster.list), with-missing raster.science (cards raster.list))
+  raster_rows_of k = rw (is, with-shown (needs_mark raster.science) (cards raster.list), with-missing raster.science (cards raster.list))
 
--- ── rows that all bear 3
-abbrev threes : List Row → Bool
-threes [] = true
-threes (r ∷ rs) = eqb r.code 3 && threes rs
+-- no refusal has the code of what is obeyed
+no_refusal : (why : Refusal) → code_of why ≡ 0 → ⊥
+no_refusal why e = grind arith
 
-three : (rs : List Row) → T (threes rs) → (first_code rs ≡ 0 → ⊥) → first_code rs ≡ 3
-three [] t n = absurd (n refl)
-three (r ∷ rs) t n =
-    let (h, q) = and_T (eqb r.code 3) (threes rs) t in
-    by-test r.holds (λ e. rw e (eqb-true r.code 3 h)) (λ e. rw e (three rs q (λ z. n (rw e z))))
+-- ── tables one after the other, of which the first has been tested
+pub first_kept : (xs ys : List Row) → (first_code xs ≡ 0 → ⊥) → first_code (xs ++ ys) ≡ first_code xs
+first_kept [] ys n = absurd (n refl)
+first_kept (r ∷ rs) ys n = by-test r.holds (λ h. rw h) (λ h. rw h (first_kept rs ys (λ z. n (rw h z))))
 
-refused-three : (k : ℕ) (rs : List Row) → T (threes rs) → k ≡ first_code rs → (k ≡ 0 → ⊥) → k ≡ 3
-refused-three k rs t e n = e ∙ three rs t (λ z. n (e ∙ z))
+pub refused_first : (xs ys : List Row) (why : Refusal) → code_of why ≡ first_code xs → code_of why ≡ first_code (xs ++ ys)
+refused_first xs ys why e = e ∙ sym (first_kept xs ys (λ z. no_refusal why (e ∙ z)))
 
-pub expose-three : (text : List ℕ) (time : ℕ) (o : Opened) (k : ℕ) → k ≡ first_code (expose_rows text time o) → (k ≡ 0 → ⊥) → k ≡ 3
-unfolding expose_rows
-expose-three text time Shut k = refused-three k (expose_rows text time Shut) tt
-expose-three text time (Open r c n) k = refused-three k (expose_rows text time (Open r c n)) tt
+pub passed_first : (xs ys : List Row) (n : ℕ) → T (coded xs) → 0 ≡ first_code xs → n ≡ first_code ys → n ≡ first_code (xs ++ ys)
+passed_first xs ys n t e f = f ∙ sym (none-skipped xs ys (none-holds xs t (sym e)))
 
-pub loop-three : (text : List ℕ) (p t : ℕ) (o : Opened) (k : ℕ) → k ≡ first_code (loop_rows text p t o) → (k ≡ 0 → ⊥) → k ≡ 3
-unfolding loop_rows
-loop-three text p t Shut k = refused-three k (loop_rows text p t Shut) tt
-loop-three text p t (Open r c n) k = refused-three k (loop_rows text p t (Open r c n)) tt
+module _ (cards : ℕ → ListCard) (raster : RasterWords) (k : ℕ) where
+  abbrev after_counts : List Row
+  after_counts = list_rows cards raster ++ (path_rows raster k ++ flag_rows cards raster)
 
-pub close-three : (text : List ℕ) (p : ℕ) (o : Opened) (k : ℕ) → k ≡ first_code (close_rows text p o) → (k ≡ 0 → ⊥) → k ≡ 3
-unfolding close_rows
-close-three text p o k = refused-three k (close_rows text p o) tt
+  pub counts_refused : (why : Refusal) → code_of why ≡ first_code (count_rows raster) → code_of why ≡ first_code (raster_rows cards raster k)
+  unfolding raster_rows
+  counts_refused = refused_first (count_rows raster) after_counts
 
--- ── the judgement where no whole command stands
-past-five : (n : ℕ) → OneOf (6 ∷ 7 ∷ 8 ∷ []) n → 6 ≤ n
-past-five n = ⊎_elim (λ e. omega arith) (⊎_elim (λ e. omega arith) (λ e. omega arith))
+  module _ (counts : 0 ≡ first_code (count_rows raster)) where
+    pub lists_refused : (why : Refusal) → code_of why ≡ first_code (list_rows cards raster) → code_of why ≡ first_code (raster_rows cards raster k)
+    unfolding raster_rows
+    lists_refused why e = passed_first (count_rows raster) after_counts _ tt counts (refused_first (list_rows cards raster) (path_rows raster k ++ flag_rows cards raster) why e)
 
-pub none-judged : (cards : ℕ → ListCard) (text : List ℕ) (p : ℕ) (o : Opened) (k : Command) → OneOf (6 ∷ 7 ∷ 8 ∷ []) (tag_of the_type k) → Refused 3 ≡ judged cards text p o k
-unfolding judged
-none-judged cards text p o RunRaster h = absurd (omega (arith, past-five 0 h))
-none-judged cards text p o (Expose time) h = absurd (omega (arith, past-five 1 h))
-none-judged cards text p o (LoopBack t) h = absurd (omega (arith, past-five 2 h))
-none-judged cards text p o (CallSequence n) h = absurd (omega (arith, past-five 3 h))
-none-judged cards text p o Terminate h = absurd (omega (arith, past-five 4 h))
-none-judged cards text p o (Delay time) h = absurd (omega (arith, past-five 5 h))
-none-judged cards text p o Nothing h = refl
-none-judged cards text p o Unknown h = refl
-none-judged cards text p o Unfit h = refl
+    module _ (lists : 0 ≡ first_code (list_rows cards raster)) where
+      past_lists : (n : ℕ) → n ≡ first_code (path_rows raster k ++ flag_rows cards raster) → n ≡ first_code (raster_rows cards raster k)
+      unfolding raster_rows
+      past_lists n e = passed_first (count_rows raster) after_counts n tt counts (passed_first (list_rows cards raster) (path_rows raster k ++ flag_rows cards raster) n tt lists e)
+
+      pub path_refused : (why : Refusal) → code_of why ≡ first_code (path_rows raster k) → code_of why ≡ first_code (raster_rows cards raster k)
+      path_refused why e = past_lists (code_of why) (refused_first (path_rows raster k) (flag_rows cards raster) why e)
+
+      pub flags_left : (n : ℕ) → 0 ≡ first_code (path_rows raster k) → n ≡ first_code (flag_rows cards raster) → n ≡ first_code (raster_rows cards raster k)
+      unfolding path_rows
+      flags_left n e f = past_lists n (passed_first (path_rows raster k) (flag_rows cards raster) n tt e f)
+
+pub ruleset raster_tests = (counts_refused, lists_refused, path_refused, flags_left)
 
 -- ── the place past the command that stands at the runner's
+-- a command takes the bytes of its row
+row-size : (k : Command) → size_of (number_of k) ≡ (row_of k).size
+unfolding size_of
+row-size k = grind arith
+
+size-by : (text : List ℕ) (p : ℕ) (k : Command) → k ≡ command_at text p → size_at text p ≡ (row_of k).size
+unfolding size_at
+size-by text p k e = ap (λ (c : Command). size_of (number_of c)) (sym e) ∙ row-size k
+
 module _ (text : List ℕ) (s : Runner) (k : Command) (stands : Stands text s k) where
-  pub past_is : s.place + size_of (number_of k) ≡ past text s
-  unfolding size_at
-  past_is = ap (λ (c : Command). s.place + size_of (number_of c)) stands.here
+  pub size_here : size_at text s.place ≡ (row_of k).size
+  size_here = size-by text s.place k stands.here
 
--- ── a raster begun, from its words as they were read; held: whether it was open
-module _ (F : Format) (text : List ℕ) (s : Runner) (p : ℕ) (stands : (p ≡ s.place) × Stands text s RunRaster) (o : Opened) (held : Bool)
-    (open_is : o ≡ open_of F s) (held-is : held ≡ is_open o) where
-  pub begins : (id start list loops repeats run : ℕ) (shift : ℤ) → run ≡ repeat_begun o → let raster = raster_at text p in
-      id ≡ raster.id → start ≡ start_of raster run → list ≡ raster.list → loops ≡ raster.loops → repeats ≡ cond held s.raster.repeats raster.repeats
-      → shift ≡ shift_of raster run
-      → to (Raster id start list)
-      (with_place (s.place + (row_of RunRaster).size)
-      (with_raster (record { place = s.place; count = 0; passes = loops; repeats = repeats; run = run; shift = shift }) (with_mirror start s)))
-      ≡ begun F text s
-  unfolding begun size_of
-  begins id start list loops repeats run shift k a b l n r z = rw (a, b, l, n, r, z, k, held-is, open_is, stands.0, past_is text s RunRaster stands.1)
-
-pub delays : (text : List ℕ) (s : Runner) (time : ℕ) → Stands text s (Delay time) → to (Wait time) (with_place (s.place + (row_of (Delay time)).size) s) ≡ delayed text s
-unfolding delayed size_of
-delays text s time stands =
-    ap₂ (λ (t n : ℕ). to (Wait t) (with_place n s)) (subst (Bytes text s.place) (sym stands.here) (command-bytes text s.place)).1
-    (past_is text s (Delay time) stands)
+  pub fits_here : s.place + (row_of k).size < 256
+  fits_here = rw (row-size k) at stands.fits
 
 -- ── an exposure is made only where the set has room
 pub set-small : (raster : RasterWords) → set_of raster ≤ 8
-set-small raster = by-test (leb raster.exposures 8) (λ e. rw e (leb-true raster.exposures 8 e)) (λ e. rw e (omega arith))
+set-small raster = grind (arith, nat_tests)
 
-open-count : (none : Bool) (placed : Placed) (r : Place) (c n : ℕ) (raster : OpenRaster) → Open r c n ≡ cond none Shut (open_by placed raster) → c ≡ raster.count
-open-count true placed r c n raster e = cc
-open-count false (At q) r c n raster e = cc
-open-count false Outside r c n raster e = cc
-
-pub set_room : (F : Format) (text : List ℕ) (time : ℕ) (s : Runner) (r : Place) (c n : ℕ) → Open r c n ≡ open_of F s → first_code (expose_rows text time (Open r c n)) ≡ 0
+pub set_room : (F : Format) (text : List ℕ) (time : ℕ) (s : Runner) (held : Option Opened) → held ≡ open_of F s → 0 ≡ first_code (expose_rows text time held)
     → s.raster.count < 255
 unfolding expose_rows
-set_room F text time s r c n o z =
-    let h = none-holds (expose_rows text time (Open r c n)) tt z in
-    let e = open-count (eqb s.raster.place 255) (place_of F s.raster.place) r c n s.raster o in
-    omega (arith, leb-false (set_of (raster_at text r.0)) c h.1.1.0, set-small (raster_at text r.0), e)
+set_room F text time s held e z = grind (arith, nat_tests)
 
 -- ── the step in a text
-place_is : (F : Format) (p : ℕ) (r : Place) → place_of F p ≡ At r → r.0 ≡ p
-place_is F p r e = by-test (ltb p F.size) (λ t. let f = rw t at e in cc) (λ t. let f = rw t at e in cc)
+place_is : (F : Format) (p : ℕ) (r : Place) → place_of F p ≡ Some r → r.0 ≡ p
+place_is F p r e = grind (arith, nat_tests)
 
-place-past : (F : Format) (p : ℕ) → place_of F p ≡ Outside → F.size ≤ p
-place-past F p e = by-test (ltb p F.size) (λ t. let f = rw t at e in let z : ◌≡◌ {A = ℕ} 0 1 = cc in omega arith) (ltb-false p F.size)
+place-past : (F : Format) (p : ℕ) → place_of F p ≡ None → F.size ≤ p
+place-past F p e = grind (arith, nat_tests)
 
-module _ (E : Env) (text : List ℕ) (s : Runner) where
-  pub by-entering : (b : Bool) → s.entering ≡ b
-      → cond b (entered text s) (act E.format text s (judge E.cards text s.place (open_of E.format s))) ≡ step_in E text s
-  unfolding step_in
-  by-entering b e = rw e
-
+module _ (E : Env) (text : List ℕ) (s : Runner) (inside : s.entering ≡ false) where
   -- past the text no command stands
-  pub step-outside : (x : Stepped) → s.entering ≡ false → Outside ≡ place_of E.format s.place → length text ≤ E.format.size → x ≡ aborted (fault 3 s.place) s → x ≡ step_in E text s
-  unfolding act judge judged
-  step-outside x e of l f =
-      let z = place-past E.format s.place (sym of) in
-      f ∙ ap (λ (k : Command). act E.format text s (judged E.cards text s.place (open_of E.format s) k)) (sym (none-past text s.place (omega arith))) ∙ by-entering false e
+  pub step_outside : None ≡ place_of E.format s.place → length text ≤ E.format.size → aborted (fault 3 s.place) s ≡ step_in E text s
+  unfolding act judge judged step_in
+  step_outside of l = let z = place-past E.format s.place (sym of) in rw (inside, none-past text s.place (omega arith))
 
--- a command that was read at the runner's place, where none is entered
-pub record Read (E : Env) (text : List ℕ) (s : Runner) (k : Command) : Type 0 where
-  pub inside : s.entering ≡ false
-  pub place : Place
-  pub at : At place ≡ place_of E.format s.place
-  pub here : k ≡ command_at text place.0
-  pub fits : place.0 + size_of (number_of k) < 256
-
-module _ {E : Env} {text : List ℕ} {s : Runner} {k : Command} (read : Read E text s k) where
-  pub at_place : read.place.0 ≡ s.place
-  at_place = place_is E.format s.place read.place (sym read.at)
-
-  pub stands : Stands text s k
-  stands = record { here = read.here ∙ ap (command_at text) at_place; fits = rw at_place at read.fits }
-
-  pub step-does : (x : Stepped) → x ≡ act E.format text s (judged E.cards text read.place.0 (open_of E.format s) k) → x ≡ step_in E text s
-  unfolding judge
-  step-does x f = rw (read.here, at_place) at f ∙ by-entering E text s false read.inside
+  -- a delay's time is what was read
+  pub step_delays : (place : Place) (time : ℕ) → Some place ≡ place_of E.format s.place → Delay time ≡ command_at text place.0
+      → to (Wait time) (with_place (s.place + (row_of (Delay time)).size) s) ≡ step_in E text s
+  unfolding act judge judged step_in delayed
+  step_delays place time of here =
+      let e = here ∙ ap (command_at text) (place_is E.format s.place place (sym of)) in
+      let read = (subst (Bytes text s.place) (sym e) (command-bytes text s.place)).1 in
+      rw (inside, ← e, size-by text s.place (Delay time) e, ← read)
 
 -- ── the step
 module _ (E : Env) (seqs : List ℕ) (s : Runner) where
   pub step-idle : s.running ≡ false → to Idle s ≡ step_of E seqs s
   unfolding step_of
-  step-idle e = sym (ap (λ (b : Bool). cond b (step_in E (text_of E seqs s.sequence) s) (to Idle s)) e)
+  step-idle e = rw e
 
   pub step-runs : (text : List ℕ) (x : Stepped) → s.running ≡ true → text ≡ text_of E seqs s.sequence → x ≡ step_in E text s → x ≡ step_of E seqs s
   unfolding step_of

@@ -1,14 +1,13 @@
 -- Every step moves what its event names and nothing else, by cases over what a runner does. Assumes nothing.
-use Prim.Native.Nat.{ℕ, ◌+◌}
+use native.Mathlib.Omega.{arith}
+use Prim.Native.Nat.{ℕ}
 use mathlib.Core.Path.{◌≡◌, refl}
 use mathlib.Core.List.{List}
-use lib.Dec.{ltb}
+use Rattle.std.specs.Prelude.{Result, Ok, Err}
 use Rattle.octets.proofs.Bools.{either}
 use Rattle.memory.specs.declared.Format.{Format}
-use Rattle.sequence.specs.declared.Header.{Header}
-use Rattle.sequence.specs.declared.Header.TheVariants.{Repeats, Bad}
-use Rattle.sequence.specs.Text.{fault, header_of}
-use Rattle.sequence.specs.Raster.{raster_at}
+use Rattle.sequence.specs.declared.Fault.{Fault}
+use Rattle.sequence.specs.Text.{header_of}
 use Rattle.sequence.specs.Env.{Env, text_of}
 use Rattle.runner.specs.declared.Runner.{Runner}
 use Rattle.runner.specs.declared.Stepped.{Stepped}
@@ -16,7 +15,7 @@ use Rattle.runner.specs.declared.Event.TheVariants.{Idle}
 use Rattle.runner.specs.declared.Act.{Act}
 use Rattle.runner.specs.declared.Act.TheVariants.{Refused, Opens, Exposes, Loops, Waits, Calls, Ends}
 use Rattle.runner.specs.Judge.{judge}
-use Rattle.runner.specs.Step.{to, open_of, past, aborted, entered_by, entered, begun, advances, exposed_at, exposed, looped, delayed, called, ended, act, step_in, step_of}
+use Rattle.runner.specs.Step.{to, open_of, aborted, entered_by, entered, begun, exposed, looped, delayed, called, ended, act, step_in, step_of}
 use Rattle.runner.specs.Moves.{moves}
 
 module _ (s : Runner) where
@@ -24,23 +23,20 @@ module _ (s : Runner) where
   abbrev pub Moved : Stepped → Type 0
   Moved x = x.runner ≡ moves x.event x.runner s
 
-  enters : (h : Header) → Moved (entered_by s h)
+  enters : (h : Result ℕ Fault) → Moved (entered_by s h)
   unfolding aborted
-  enters (Repeats n) = refl
-  enters (Bad f) = refl
+  enters (Ok n) = refl
+  enters (Err f) = refl
 
   acts : (F : Format) (text : List ℕ) (a : Act) → Moved (act F text s a)
   unfolding aborted begun exposed looped delayed called ended act
   acts F text (Refused code) = refl
   acts F text Opens = refl
-  acts F text (Exposes r) =
-      let raster = raster_at text r.0 in
-      let far = s.mirror + raster.step in
-      either Moved (advances raster s) _ (exposed_at (past text s) s.mirror s) (either Moved (ltb 2400 far) (aborted (fault 14 s.place) s) (exposed_at (past text s) far s) refl refl) refl
-  acts F text (Loops t) = either Moved (ltb 1 s.raster.passes) _ _ refl (either Moved (ltb 1 s.raster.repeats) _ _ refl refl)
+  acts F text (Exposes r) = grind arith
+  acts F text (Loops t) = grind arith
   acts F text Waits = refl
-  acts F text (Calls n) = either Moved (ltb 1 s.rounds) _ _ refl (either Moved (ltb F.last n) _ _ refl refl)
-  acts F text Ends = either Moved (ltb 1 s.rounds) _ _ refl refl
+  acts F text (Calls n) = grind arith
+  acts F text Ends = grind arith
 
   works : (E : Env) (text : List ℕ) → Moved (step_in E text s)
   unfolding entered step_in

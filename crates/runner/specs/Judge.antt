@@ -1,6 +1,6 @@
 -- What the command at a place comes to, from the text, the place, the open raster and what is known of the line lists alone.
 -- The step acts on this judgement and the table check walks the text with it.
-use Rattle.std.specs.Prelude.{ℕ, ◌+◌, Bool, true, false, cond, not, ◌&&◌, List, [], ◌∷◌, ◌++◌, ltb, leb, eqb}
+use Rattle.std.specs.Prelude.{ℕ, ◌+◌, Bool, true, false, cond, not, ◌&&◌, List, [], ◌∷◌, ◌++◌, ltb, leb, eqb, Option, Some, None, Result, Ok, Err}
 use Rattle.octets.specs.Rows.{Row, row, first_code}
 use Rattle.memory.specs.declared.Place.{Place}
 use Rattle.sequence.specs.declared.Command.{Command}
@@ -8,29 +8,45 @@ use Rattle.sequence.specs.declared.Command.TheVariants.{RunRaster, Expose, LoopB
 use Rattle.sequence.specs.declared.RasterWords.{RasterWords}
 use Rattle.sequence.specs.Text.{limit, size_at, command_at, is_run_raster}
 use Rattle.sequence.specs.Starts.{target_good}
-use Rattle.sequence.specs.declared.ListCard.{ListCard}
 use Rattle.sequence.specs.Raster.{raster_at, flags_good, mark_missing, asrc_wrong, leaves}
-use Rattle.sequence.specs.LineList.{card_shown, marks_in}
+use Rattle.sequence.specs.LineList.{ListCard, card_shown, marks_in}
+use Rattle.runner.specs.declared.Refusal.{Refusal}
+use Rattle.runner.specs.declared.Refusal.TheVariants.{Forbidden, SequenceOutOfRange, ExposureCount, ListOutOfRange, ListError, RasterRepeats, MirrorOutOfRange}
 use Rattle.runner.specs.declared.Opened.{Opened}
-use Rattle.runner.specs.declared.Opened.TheVariants.{Shut, Open}
 use Rattle.runner.specs.declared.Act.{Act}
 use Rattle.runner.specs.declared.Act.TheVariants.{Refused, Opens, Exposes, Loops, Waits, Calls, Ends}
 
+-- ── why a command is refused
+-- the code of each case, which its rows below bear; the step itself gives 4, "call above 127 gives 4"
+abbrev pub code_of : Refusal → ℕ
+code_of Forbidden = 3
+code_of SequenceOutOfRange = 4
+code_of ExposureCount = 5
+code_of ListOutOfRange = 6
+code_of ListError = 7
+code_of RasterRepeats = 11
+code_of MirrorOutOfRange = 14
+
+-- for the code: that of a test, 0 where it passes
+abbrev pub code_in : {A : Type 0} → Result A Refusal → ℕ
+code_in (Ok passed) = 0
+code_in (Err why) = code_of why
+
 -- ── the open raster
 -- "raster open"
-abbrev pub is_open : Opened → Bool
-is_open Shut = false
-is_open (Open r c k) = true
+abbrev pub is_open : Option Opened → Bool
+is_open None = false
+is_open (Some o) = true
 
 -- "raster already open": at its own place a run raster is a repeat's jump back
-abbrev pub open_elsewhere : ℕ → Opened → Bool
-open_elsewhere p Shut = false
-open_elsewhere p (Open r c k) = not (eqb r.0 p)
+abbrev pub open_elsewhere : ℕ → Option Opened → Bool
+open_elsewhere p None = false
+open_elsewhere p (Some o) = not (eqb o.place.0 p)
 
 -- the number, from 0, of the repeat that a run raster begins: the run number, and 0 where it opens the raster
-abbrev pub repeat_begun : Opened → ℕ
-repeat_begun Shut = 0
-repeat_begun (Open r c k) = k
+abbrev pub repeat_begun : Option Opened → ℕ
+repeat_begun None = 0
+repeat_begun (Some o) = o.run
 
 -- how many exposures fill a set: the raster's, and never more than 8
 abbrev pub set_of : RasterWords → ℕ
@@ -75,35 +91,35 @@ unfoldable pub raster_rows : (ℕ → ListCard) → RasterWords → ℕ → List
 raster_rows cards raster k = count_rows raster ++ (list_rows cards raster ++ (path_rows raster k ++ flag_rows cards raster))
 
 -- "Run raster: raster already open 3 (a repeat's jump back isn't that ..)"
-unfoldable pub run_rows : (ℕ → ListCard) → List ℕ → ℕ → Opened → List Row
+unfoldable pub run_rows : (ℕ → ListCard) → List ℕ → ℕ → Option Opened → List Row
 run_rows cards text p o = row 3 (open_elsewhere p o) ∷ raster_rows cards (raster_at text p) (repeat_begun o)
 
 -- the command at p is a run raster that comes to the test of its line list: no row before it refuses
-unfoldable pub tests_list : List ℕ → ℕ → Opened → Bool
+unfoldable pub tests_list : List ℕ → ℕ → Option Opened → Bool
 tests_list text p o =
     is_run_raster (command_at text p)
     && eqb (first_code (row 3 (open_elsewhere p o) ∷ (count_rows (raster_at text p) ++ (row 6 (ltb 47 (raster_at text p).list) ∷ [])))) 0
 
 -- "Expose: no open raster, time 0, or the set already full, 3."
-unfoldable pub expose_rows : List ℕ → ℕ → Opened → List Row
-expose_rows text time Shut = row 3 true ∷ []
-expose_rows text time (Open r c k) =
-    row 3 (not (is_run_raster (command_at text r.0)))
+unfoldable pub expose_rows : List ℕ → ℕ → Option Opened → List Row
+expose_rows text time None = row 3 true ∷ []
+expose_rows text time (Some o) =
+    row 3 (not (is_run_raster (command_at text o.place.0)))
     ∷ row 3 (eqb time 0)
-    ∷ row 3 (full text r c)
+    ∷ row 3 (full text o.place o.count)
     ∷ []
 
 -- "Loop back: no open raster, set not full, or target not the start of a command .., 3."
-unfoldable pub loop_rows : List ℕ → ℕ → ℕ → Opened → List Row
-loop_rows text p t Shut = row 3 true ∷ []
-loop_rows text p t (Open r c k) =
-    row 3 (not (is_run_raster (command_at text r.0)))
-    ∷ row 3 (not (full text r c))
-    ∷ row 3 (not (target_good text r.0 p t))
+unfoldable pub loop_rows : List ℕ → ℕ → ℕ → Option Opened → List Row
+loop_rows text p t None = row 3 true ∷ []
+loop_rows text p t (Some o) =
+    row 3 (not (is_run_raster (command_at text o.place.0)))
+    ∷ row 3 (not (full text o.place o.count))
+    ∷ row 3 (not (target_good text o.place.0 p t))
     ∷ []
 
 -- "Call, terminate: raster open, or not ending at the checksum, 3."
-unfoldable pub close_rows : List ℕ → ℕ → Opened → List Row
+unfoldable pub close_rows : List ℕ → ℕ → Option Opened → List Row
 close_rows text p o = row 3 (is_open o) ∷ row 3 (not (eqb (p + size_at text p) (limit text))) ∷ []
 
 -- ── the judgement
@@ -112,12 +128,12 @@ abbrev pub unless : ℕ → Act → Act
 unless code act = cond (eqb code 0) act (Refused code)
 
 -- an exposure in the open raster
-abbrev pub exposes_in : Opened → Act
-exposes_in Shut = Refused 3
-exposes_in (Open r c k) = Exposes r
+abbrev pub exposes_in : Option Opened → Act
+exposes_in None = Refused 3
+exposes_in (Some o) = Exposes o.place
 
 -- "No command there .., an unknown number, or one that doesn't fit before the checksum: 3."
-unfoldable pub judged : (ℕ → ListCard) → List ℕ → ℕ → Opened → Command → Act
+unfoldable pub judged : (ℕ → ListCard) → List ℕ → ℕ → Option Opened → Command → Act
 judged cards text p o RunRaster = unless (first_code (run_rows cards text p o)) Opens
 judged cards text p o (Expose time) = unless (first_code (expose_rows text time o)) (exposes_in o)
 judged cards text p o (LoopBack t) = unless (first_code (loop_rows text p t o)) (Loops t)
@@ -128,5 +144,5 @@ judged cards text p o Nothing = Refused 3
 judged cards text p o Unknown = Refused 3
 judged cards text p o Unfit = Refused 3
 
-unfoldable pub judge : (ℕ → ListCard) → List ℕ → ℕ → Opened → Act
+unfoldable pub judge : (ℕ → ListCard) → List ℕ → ℕ → Option Opened → Act
 judge cards text p o = judged cards text p o (command_at text p)

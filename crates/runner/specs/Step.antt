@@ -1,15 +1,11 @@
 -- One interpreter step.
-use Rattle.std.specs.Prelude.{ℕ, ◌+◌, ◌-◌, ◌<◌, ◌≡◌, Bool, true, false, cond, ◌&&◌, List, ltb, eqb}
+use Rattle.std.specs.Prelude.{ℕ, ◌+◌, ◌-◌, ◌<◌, ◌≡◌, Bool, true, false, cond, ◌&&◌, List, ltb, eqb, Option, Some, None, Result, Ok, Err}
 use Rattle.octets.specs.Bytes.{word_at, counted}
 use Rattle.memory.specs.declared.Format.{Format}
 use Rattle.memory.specs.declared.Place.{Place}
-use Rattle.memory.specs.declared.Placed.{Placed}
-use Rattle.memory.specs.declared.Placed.TheVariants.{At, Outside}
 use Rattle.memory.specs.Memory.{place_of}
 use Rattle.sequence.specs.declared.Command.{Command}
 use Rattle.sequence.specs.declared.Fault.{Fault}
-use Rattle.sequence.specs.declared.Header.{Header}
-use Rattle.sequence.specs.declared.Header.TheVariants.{Repeats, Bad}
 use Rattle.sequence.specs.declared.RasterWords.{RasterWords}
 use Rattle.sequence.specs.Text.{fault, number_of, size_of, size_at, command_at, header_of}
 use Rattle.sequence.specs.Raster.{raster_at, shift_of, start_of}
@@ -20,7 +16,6 @@ use Rattle.runner.specs.declared.Stepped.{Stepped}
 use Rattle.runner.specs.declared.Event.{Event}
 use Rattle.runner.specs.declared.Event.TheVariants.{Idle, Enter, Raster, Exp, Loop, Next, Done, Wait, Call, End, Abort}
 use Rattle.runner.specs.declared.Opened.{Opened}
-use Rattle.runner.specs.declared.Opened.TheVariants.{Shut, Open}
 use Rattle.runner.specs.declared.Act.{Act}
 use Rattle.runner.specs.declared.Act.TheVariants.{Refused, Opens, Exposes, Loops, Waits, Calls, Ends}
 use Rattle.runner.specs.With.{with_sequence, with_place, with_running, with_entering, with_raster, with_rounds, with_mirror, open_at, with_count, with_passes, with_repeats, with_run}
@@ -30,12 +25,12 @@ abbrev pub to : Event → Runner → Stepped
 to e s = record { event = e; runner = s }
 
 -- the raster that the runner holds open: 255, or a number that is no place, is none
-abbrev pub open_by : Placed → OpenRaster → Opened
-open_by (At r) o = Open r o.count o.run
-open_by Outside o = Shut
+abbrev pub open_by : Option Place → OpenRaster → Option Opened
+open_by (Some r) o = Some (record { place = r; count = o.count; run = o.run })
+open_by None o = None
 
-abbrev pub open_of : Format → Runner → Opened
-open_of F s = cond (eqb s.raster.place 255) Shut (open_by (place_of F s.raster.place) s.raster)
+abbrev pub open_of : Format → Runner → Option Opened
+open_of F s = cond (eqb s.raster.place 255) None (open_by (place_of F s.raster.place) s.raster)
 
 -- "the place after a step is the next command's"
 abbrev pub past : List ℕ → Runner → ℕ
@@ -46,15 +41,15 @@ unfoldable pub aborted : Fault → Runner → Stepped
 aborted f s = to (Abort f.code s.sequence f.place) (with_place f.place (with_running false s))
 
 -- "Entering a sequence is one step: bad length or XOR, code 2 at place 0; then repeats 0, code 10 at place 3."
-abbrev pub entered_by : Runner → Header → Stepped
-entered_by s (Repeats n) = to (Enter s.sequence) (with_entering false (with_place 4 (with_rounds n s)))
-entered_by s (Bad f) = aborted f s
+abbrev pub entered_by : Runner → Result ℕ Fault → Stepped
+entered_by s (Ok n) = to (Enter s.sequence) (with_entering false (with_place 4 (with_rounds n s)))
+entered_by s (Err f) = aborted f s
 
 unfoldable pub entered : List ℕ → Runner → Stepped
 entered text s = entered_by s (header_of text)
 
 -- "The mirror goes home, then to initial", moved by the shift; "the status takes the line list." A repeat's jump back "doesn't reload repeats".
-abbrev pub begun_in : ℕ → RasterWords → Opened → Runner → Stepped
+abbrev pub begun_in : ℕ → RasterWords → Option Opened → Runner → Stepped
 begun_in next raster o s =
     let k = repeat_begun o in
     to (Raster raster.id (start_of raster k) raster.list)

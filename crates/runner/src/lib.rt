@@ -1,22 +1,23 @@
 // The interpreter: what the command at a place comes to, and what one step does with it.
 #![tactic(auto)]
 
-ghost use Rattle.std.specs.Prelude.{◌≡◌, ◌+◌, ◌*◌, ◌-◌, ◌/◌, ◌%◌, ◌<◌, ◌≤◌, cond, ltb, length};
+ghost use Rattle.std.specs.Prelude.{◌≡◌, ◌+◌, ◌*◌, ◌-◌, ◌/◌, ◌%◌, ◌<◌, ◌≤◌, cond, ltb, length, IfOk};
 ghost use Rattle.octets.specs.Bytes.{byte_bit};
 ghost use Rattle.octets.specs.Rows.{first_code, NoneHolds};
-ghost use Rattle.sequence.specs.Raster.{raster_at, asrc_wrong, shift_of, start_of, strays, leaves};
+ghost use Rattle.sequence.specs.Raster.{raster_at, asrc_wrong, shift_of, start_of, strays, some_strays, leaves};
 ghost use Rattle.sequence.specs.declared.Command.TheVariants.{Expose, Delay};
 ghost use Rattle.sequence.specs.Text.{row_of, fault, size_at};
 ghost use Rattle.sequence.specs.Env.{cards_of, cards_lent, env_of};
-ghost use Rattle.runner.specs.Judge.{is_open, open_elsewhere, repeat_begun, set_of, full, count_rows, list_rows, path_rows, flag_rows, raster_rows, run_rows, expose_rows, loop_rows, close_rows, tests_list, unless, exposes_in, judge};
+ghost use Rattle.runner.specs.Judge.{code_of, code_in, open_elsewhere, repeat_begun, set_of, full, count_rows, list_rows, path_rows, flag_rows, raster_rows, run_rows, expose_rows, loop_rows, close_rows, tests_list, unless, exposes_in, judge};
 ghost use Rattle.runner.specs.Step.{to, open_of, aborted, entered, advances, exposed_at, next_repeat, another, act, step_in, step_of, Stands};
 ghost use Rattle.runner.specs.With.{with_place, open_at, with_count, with_passes};
 
-use memory::{Format, Place, Placed};
-use sequence::{Command, Fault, Header, Lent, ListCard, RasterWords};
+use memory::{Format, Place};
+use sequence::{Command, Fault, Lent, ListCard, RasterWords};
 
 // The open raster: the run number of its repeat, from 0; the passes left; its place, 255 for none; the exposures made in the present set; the
 // repeats left; and the signed shift of the repeat's start, which is shown and never read.
+// Stays: 255 is a place like any other, since the state that C lends may hold any, and the definition of an abort leaves it as it is.
 #[derive(Clone, Copy)]
 pub struct OpenRaster {
     pub run: u16,
@@ -41,6 +42,7 @@ pub struct Runner {
 }
 
 // What a step shows, a case for each word that the desk prints.
+// Stays: an abort's code is a number, as the definition of what an event shows has it, and the C interface.
 #[derive(Clone, Copy)]
 pub enum Event {
     Idle,
@@ -76,19 +78,14 @@ pub struct Sight {
 
 // The raster that is open: its place, the exposures made in the set and the run number.
 #[derive(Clone, Copy)]
-pub enum Opened {
-    Shut,
-    Open(Place, u8, u16),
-}
-
-// Where a repeat begins: the mirror's position, and its signed shift from the initial one.
-#[derive(Clone, Copy)]
-struct Start {
-    position: u16,
-    shift: i16,
+pub struct Opened {
+    pub place: Place,
+    pub count: u8,
+    pub run: u16,
 }
 
 // What the command at a place comes to: refused with a code, or what it does; an exposure names its raster's place.
+// Stays: the code is a number, as the clause of `judge` has it, and the definitions and the theorem of what is refused exactly.
 #[derive(Clone, Copy)]
 pub enum Act {
     Refused(u8),
@@ -100,76 +97,69 @@ pub enum Act {
     Ends,
 }
 
-// An act, unless a row refused it.
-fn unless(code: u8, judgement: Act) -> Act
-    ensures { result ≡ unless code judgement }
-{
-    if code == 0 {
-        judgement
-    } else {
-        Act::Refused(code)
+// Why a command is refused, each case with the code that is shown for it.
+#[derive(Clone, Copy)]
+enum Refusal {
+    // it can't stand there, or has an operand or flags that it can't have
+    Forbidden = 3,
+    SequenceOutOfRange = 4,
+    // those of a set
+    ExposureCount = 5,
+    ListOutOfRange = 6,
+    // a bad line list, or one without a mark that a flag needs
+    ListError = 7,
+    // loops or repeats of 0
+    RasterRepeats = 11,
+    MirrorOutOfRange = 14,
+}
+
+impl Refusal {
+    // The code that a refusal shows.
+    fn code(self) -> u8
+        ensures { result ≡ code_of self }
+    {
+        self as u8
     }
 }
 
-impl Opened {
-    // Whether a raster is open.
-    fn is_open(self) -> bool
-        ensures { result ≡ is_open self }
-    {
-        match self {
-            Opened::Shut => false,
-            Opened::Open(_, _, _) => true,
-        }
+// An act, unless a row refused it.
+fn unless(tested: Result<(), Refusal>, judgement: Act) -> Act
+    ensures { result ≡ unless (code_in tested) judgement }
+{
+    match tested {
+        Ok(()) => judgement,
+        Err(why) => Act::Refused(why.code()),
     }
+}
 
-    // Whether a raster is open at another place than this.
-    fn elsewhere(self, at: Place) -> bool
-        ensures { result ≡ open_elsewhere at.0 self }
-    {
-        match self {
-            Opened::Shut => false,
-            Opened::Open(r, _, _) => r.number() != at.number(),
-        }
-    }
+// Whether a raster is open at another place than this.
+fn elsewhere(held: Option<Opened>, at: Place) -> bool
+    ensures { result ≡ open_elsewhere at.0 held }
+{
+    held.is_some_and(|open| open.place != at)
+}
 
-    // An exposure in the open raster.
-    fn exposes(self) -> Act
-        ensures { result ≡ exposes_in self }
-    {
-        match self {
-            Opened::Shut => Act::Refused(3),
-            Opened::Open(raster, _, _) => Act::Exposes(raster),
-        }
-    }
-
-    // The number, from 0, of the repeat that a run raster begins.
-    fn repeat_begun(self) -> u16
-        ensures { result ≡ repeat_begun self }
-    {
-        match self {
-            Opened::Shut => 0,
-            Opened::Open(_, _, run) => run,
-        }
-    }
+// The number, from 0, of the repeat that a run raster begins.
+fn repeat_begun(held: Option<Opened>) -> u16
+    ensures { result ≡ repeat_begun held }
+{
+    held.map_or(0, |open| open.run)
 }
 
 // How many exposures fill a set of the raster at a place.
 fn set_of(text: &[u8], raster: Place) -> u8
     ensures { result ≡ set_of (raster_at text.now raster.0) }
 {
-    let exposures = sequence::exposures_at(text, raster);
-    if exposures <= Runner::FULL_SET {
-        exposures
-    } else {
-        Runner::FULL_SET
-    }
+    sequence::exposures_at(text, raster).min(Runner::FULL_SET)
 }
 
-// Whether the set of the raster at a place is full.
-fn full(text: &[u8], raster: Place, count: u8) -> bool
-    ensures { result ≡ full text.now raster count }
-{
-    set_of(text, raster) <= count
+impl Opened {
+    // Whether the raster's set is full.
+    fn full(self, text: &[u8]) -> bool
+        ensures { result ≡ full text.now self.place self.count }
+    {
+        set_of(text, self.place) <= self.count
+    }
 }
 
 // Whether the ASRC byte moves the start back: its bit 0.
@@ -193,10 +183,7 @@ fn moved_by(asrc: u8, skip: u8, k: u16) -> u32
 fn last_pass(start: u32, loops: u16, step: u16) -> u64
     ensures { result ≡ start + (loops - 1) * step }
 {
-    if loops == 0 {
-        return start as u64;
-    }
-    start as u64 + (loops as u64 - 1) * (step as u64)
+    start as u64 + loops.saturating_sub(1) as u64 * step as u64
 }
 
 // Whether the last of so many passes is past the end stop.
@@ -212,258 +199,228 @@ fn strays(raster: RasterWords, k: u16) -> bool
 {
     let initial = raster.initial as u32;
     let moved = moved_by(raster.asrc, raster.skip, k);
-    if !backward(raster.asrc) {
-        return past_stop(initial + moved, raster.loops, raster.step);
+    if backward(raster.asrc) {
+        initial < moved || past_stop(initial - moved, raster.loops, raster.step)
+    } else {
+        past_stop(initial + moved, raster.loops, raster.step)
     }
-    if initial < moved {
-        return true;
-    }
-    past_stop(initial - moved, raster.loops, raster.step)
 }
 
-// Whether a position of any repeat is out of range, or of repeat k, which is begun. The shift goes one way: the first and the last repeat
-// decide for all.
+// Whether a position of any repeat is out of range. The shift goes one way: the first and the last repeat decide for all.
+#[tactic(auto, using(crate::proofs::Laws::ends))]
+fn some_strays(raster: RasterWords) -> bool
+    ensures { result ≡ some_strays raster raster.repeats }
+{
+    raster.repeats != 0 && (strays(raster, 0) || strays(raster, raster.repeats - 1))
+}
+
+// Whether a position of any repeat is out of range, or of repeat k, which is begun.
 fn leaves(raster: RasterWords, k: u16) -> bool
     ensures { result ≡ leaves raster k }
 {
-    if raster.repeats == 0 {
-        return strays(raster, k);
-    }
-    let first = strays(raster, 0);
-    let last = strays(raster, raster.repeats - 1);
-    octets::either(octets::either(first, last), strays(raster, k))
+    some_strays(raster) || strays(raster, k)
 }
 
-// Where repeat k of the run raster at a place begins, whose path no row refuses.
-fn start_at(text: &[u8], at: Place, k: u16) -> Start
+// How far the start of repeat k of the run raster at a place is moved, forward or back; no row refuses its path.
+fn shift_at(text: &[u8], at: Place, k: u16) -> i16
     requires { NoneHolds (path_rows (raster_at text.now at.0) k) }
-    ensures { (result.position ≡ start_of (raster_at text.now at.0) k) × (result.shift ≡ shift_of (raster_at text.now at.0) k) }
+    ensures { result ≡ shift_of (raster_at text.now at.0) k }
 {
-    let initial = sequence::initial_at(text, at);
     let asrc = sequence::asrc_at(text, at);
     if asrc == 0 {
-        return Start {
-            position: initial,
-            shift: 0,
-        };
+        return 0;
     }
-    let moved = moved_by(asrc, sequence::skip_at(text, at), k) as u16;
-    if backward(asrc) {
-        return Start {
-            position: initial - moved,
-            shift: -(moved as i16),
-        };
-    }
-    Start {
-        position: initial + moved,
-        shift: moved as i16,
-    }
+    let moved = moved_by(asrc, sequence::skip_at(text, at), k) as i16;
+    if backward(asrc) { -moved } else { moved }
 }
 
-// Where the mirror stands one step on.
-fn advanced(mirror: u16, step: u16) -> u32
-    ensures { result ≡ mirror + step }
+// Where repeat k of the run raster at a place begins: the initial position and its shift.
+fn start_at(text: &[u8], at: Place, k: u16, shift: i16) -> u16
+    requires none { NoneHolds (path_rows (raster_at text.now at.0) k) }
+    requires shifted { shift ≡ shift_of (raster_at text.now at.0) k }
+    ensures { result ≡ start_of (raster_at text.now at.0) k }
 {
-    mirror as u32 + step as u32
+    (sequence::initial_at(text, at) as i32 + shift as i32) as u16
 }
 
-// The code with which a raster's loops, repeats and exposures are refused, or 0.
-fn count_fault(raster: RasterWords) -> u8
-    ensures { result ≡ first_code (count_rows raster) }
+// The test of a raster's loops, repeats and exposures.
+fn count_fault(raster: RasterWords) -> Result<(), Refusal>
+    ensures { code_in result ≡ first_code (count_rows raster) }
 {
-    octets::refuse(
-        raster.loops == 0,
-        11,
-        octets::refuse(
-            raster.repeats == 0,
-            11,
-            octets::refuse(
-                raster.exposures == 0,
-                5,
-                octets::refuse(Runner::FULL_SET < raster.exposures, 5, 0),
-            ),
-        ),
-    )
+    if raster.loops == 0 || raster.repeats == 0 {
+        return Err(Refusal::RasterRepeats);
+    }
+    if raster.exposures == 0 || Runner::FULL_SET < raster.exposures {
+        return Err(Refusal::ExposureCount);
+    }
+    Ok(())
 }
 
-// The code with which a raster's line list is refused, or 0: which of its tests fails is dropped.
-fn list_fault(raster: RasterWords, card: ListCard) -> u8
-    ensures { result ≡ first_code (list_rows (λ n. card) raster) }
+// The test of a raster's line list: which of the list's own tests fails is dropped.
+fn list_fault(raster: RasterWords, card: ListCard) -> Result<(), Refusal>
+    ensures { code_in result ≡ first_code (list_rows (λ n. card) raster) }
 {
-    octets::refuse(
-        memory::LAST_LINE_LIST < raster.list,
-        6,
-        octets::refuse(0 < card.shown().number, 7, 0),
-    )
+    if memory::LAST_LINE_LIST < raster.list {
+        return Err(Refusal::ListOutOfRange);
+    }
+    if card.is_err() {
+        return Err(Refusal::ListError);
+    }
+    Ok(())
 }
 
 // Whether an ASRC byte other than 0 has no steps, or skip 0 beside it.
 fn asrc_wrong(raster: RasterWords) -> bool
     ensures { result ≡ asrc_wrong raster }
 {
-    octets::both(
-        raster.asrc != 0,
-        octets::either(raster.asrc % 128 == 0, raster.skip == 0),
-    )
+    raster.asrc != 0 && (raster.asrc % 128 == 0 || raster.skip == 0)
 }
 
-// The code with which a raster's positions are refused, or 0, given whether one of them is out of range.
-fn range_fault(raster: RasterWords, leaves: bool) -> u8
-    ensures { result ≡ cond (ltb 2400 raster.initial) 14 (cond (ltb 2400 raster.step) 14 (cond leaves 14 0)) }
+// The test of a raster's positions, given whether one of them is out of range.
+fn range_fault(raster: RasterWords, leaves: bool) -> Result<(), Refusal>
+    ensures { code_in result ≡ cond (ltb 2400 raster.initial) 14 (cond (ltb 2400 raster.step) 14 (cond leaves 14 0)) }
 {
-    octets::refuse(
-        Runner::END_STOP < raster.initial,
-        14,
-        octets::refuse(
-            Runner::END_STOP < raster.step,
-            14,
-            octets::refuse(leaves, 14, 0),
-        ),
-    )
+    if Runner::END_STOP < raster.initial || Runner::END_STOP < raster.step || leaves {
+        return Err(Refusal::MirrorOutOfRange);
+    }
+    Ok(())
 }
 
-// The code with which a raster's path is refused, or 0, where repeat k is begun. With an ASRC byte of 0 every repeat takes the same path.
-fn path_fault(raster: RasterWords, k: u16) -> u8
-    ensures { result ≡ first_code (path_rows raster k) }
+// The test of a raster's path, where repeat k is begun. With an ASRC byte of 0 every repeat takes the same path.
+#[tactic(auto, using(crate::proofs::Laws::path_off), unfolding(crate::specs::Judge::path_rows))]
+fn path_fault(raster: RasterWords, k: u16) -> Result<(), Refusal>
+    ensures { code_in result ≡ first_code (path_rows raster k) }
 {
     if raster.asrc == 0 {
         let past = past_stop(raster.initial as u32, raster.loops, raster.step);
         return range_fault(raster, past);
     }
-    let range = range_fault(raster, leaves(raster, k));
-    octets::refuse(asrc_wrong(raster), 3, range)
+    if asrc_wrong(raster) {
+        return Err(Refusal::Forbidden);
+    }
+    range_fault(raster, leaves(raster, k))
 }
 
-// The code with which a raster's flags are refused, or 0; a mark that is missing comes last.
-fn flag_fault(raster: RasterWords, card: ListCard) -> u8
-    ensures { result ≡ first_code (flag_rows (λ n. card) raster) }
+// The test of a raster's flags; a mark that is missing comes last.
+fn flag_fault(raster: RasterWords, card: ListCard) -> Result<(), Refusal>
+    ensures { code_in result ≡ first_code (flag_rows (λ n. card) raster) }
 {
-    let forbidden = !sequence::flags_good(raster.science);
-    let missing = card.marks().lack(raster.science);
-    octets::refuse(forbidden, 3, octets::refuse(missing, 7, 0))
+    if !sequence::flags_good(raster.science) {
+        return Err(Refusal::Forbidden);
+    }
+    if sequence::marks_in(card).lack(raster.science) {
+        return Err(Refusal::ListError);
+    }
+    Ok(())
 }
 
-// The code with which a raster's words are refused, or 0, given its line list's card: counts, line list, path, flags.
-fn raster_fault(raster: RasterWords, card: ListCard, k: u16) -> u8
-    ensures { result ≡ first_code (raster_rows (λ n. card) raster k) }
+// The test of a raster's words, given its line list's card: counts, line list, path, flags.
+#[tactic(auto, using(crate::proofs::Laws::raster_tests))]
+fn raster_fault(raster: RasterWords, card: ListCard, k: u16) -> Result<(), Refusal>
+    ensures { code_in result ≡ first_code (raster_rows (λ n. card) raster k) }
 {
-    let counts = count_fault(raster);
-    let list = list_fault(raster, card);
-    let path = path_fault(raster, k);
-    octets::refuse(
-        counts != 0,
-        counts,
-        octets::refuse(
-            list != 0,
-            list,
-            octets::refuse(path != 0, path, flag_fault(raster, card)),
-        ),
-    )
+    count_fault(raster)?;
+    list_fault(raster, card)?;
+    path_fault(raster, k)?;
+    flag_fault(raster, card)
 }
 
-// The code with which a run raster is refused, or 0. The marks of the line list are looked for only where a flag needs one.
-fn run_fault(text: &[u8], lent: Lent, lists: &[u8], at: Place, held: Opened) -> u8
-    ensures { result ≡ first_code (run_rows (cards_lent lent lists.now) text.now at.0 held) }
+// The test of a run raster. The marks of the line list are looked for only where a flag needs one.
+// Stays: here and below a text and a place in it are two parameters, as the public readers of a text take them.
+#[tactic(auto, unfolding(crate::specs::Judge::run_rows))]
+fn run_fault(
+    text: &[u8],
+    lent: Lent,
+    lists: &[u8],
+    at: Place,
+    held: Option<Opened>,
+) -> Result<(), Refusal>
+    ensures { code_in result ≡ first_code (run_rows (cards_lent lent lists.now) text.now at.0 held) }
 {
+    if elsewhere(held, at) {
+        return Err(Refusal::Forbidden);
+    }
     let raster = sequence::raster_at(text, at);
     let wanted = sequence::needs_mark(raster.science);
     let card = sequence::card_of(lent, lists, raster.list, wanted);
-    let k = held.repeat_begun();
-    octets::refuse(held.elsewhere(at), 3, raster_fault(raster, card, k))
+    raster_fault(raster, card, repeat_begun(held))
 }
 
 // Whether the command at a place is a run raster that comes to the test of its line list: no row before it refuses.
-pub fn tests_list(text: &[u8], at: Place, held: Opened) -> bool
+#[tactic(auto, unfolding(crate::specs::Judge::tests_list))]
+pub fn tests_list(text: &[u8], at: Place, held: Option<Opened>) -> bool
     ensures { result ≡ tests_list text.now at.0 held }
 {
-    if !sequence::raster_stands(text, at) {
+    if !sequence::raster_stands(text, at) || elsewhere(held, at) {
         return false;
     }
     let exposures = sequence::exposures_at(text, at);
-    octets::refuse(
-        held.elsewhere(at),
-        3,
-        octets::refuse(
-            sequence::loops_at(text, at) == 0,
-            11,
-            octets::refuse(
-                sequence::repeats_at(text, at) == 0,
-                11,
-                octets::refuse(
-                    exposures == 0,
-                    5,
-                    octets::refuse(
-                        Runner::FULL_SET < exposures,
-                        5,
-                        octets::refuse(memory::LAST_LINE_LIST < sequence::list_at(text, at), 6, 0),
-                    ),
-                ),
-            ),
-        ),
-    ) == 0
+    sequence::loops_at(text, at) != 0
+        && sequence::repeats_at(text, at) != 0
+        && exposures != 0
+        && exposures <= Runner::FULL_SET
+        && sequence::list_at(text, at) <= memory::LAST_LINE_LIST
 }
 
-// The code with which an expose is refused, or 0.
-fn expose_fault(text: &[u8], time: u16, held: Opened) -> u8
-    ensures { result ≡ first_code (expose_rows text.now time held) }
+// The test of an expose: the open raster's place, or why it is refused.
+#[tactic(auto, unfolding(crate::specs::Judge::expose_rows))]
+fn expose_fault(text: &[u8], time: u16, held: Option<Opened>) -> Result<Place, Refusal>
+    ensures code { code_in result ≡ first_code (expose_rows text.now time held) }
+    ensures raster { IfOk result (λ r. exposes_in held ≡ Act.Exposes r) }
 {
-    match held {
-        Opened::Shut => 3,
-        Opened::Open(raster, count, _) => octets::refuse(
-            !sequence::raster_stands(text, raster),
-            3,
-            octets::refuse(
-                time == 0,
-                3,
-                octets::refuse(full(text, raster, count), 3, 0),
-            ),
-        ),
+    let open = held.ok_or(Refusal::Forbidden)?;
+    if !sequence::raster_stands(text, open.place) || time == 0 || open.full(text) {
+        return Err(Refusal::Forbidden);
     }
+    Ok(open.place)
 }
 
-// The code with which a loop back is refused, or 0.
-fn loop_fault(text: &[u8], at: Place, target: u8, held: Opened) -> u8
-    ensures { result ≡ first_code (loop_rows text.now at.0 target held) }
+// The test of a loop back.
+#[tactic(auto, unfolding(crate::specs::Judge::loop_rows))]
+fn loop_fault(text: &[u8], at: Place, target: u8, held: Option<Opened>) -> Result<(), Refusal>
+    ensures { code_in result ≡ first_code (loop_rows text.now at.0 target held) }
 {
-    match held {
-        Opened::Shut => 3,
-        Opened::Open(raster, count, _) => octets::refuse(
-            !sequence::raster_stands(text, raster),
-            3,
-            octets::refuse(
-                !full(text, raster, count),
-                3,
-                octets::refuse(!sequence::target_good(text, raster, at, target), 3, 0),
-            ),
-        ),
+    let open = held.ok_or(Refusal::Forbidden)?;
+    if !sequence::raster_stands(text, open.place)
+        || !open.full(text)
+        || !sequence::target_good(text, open.place, at, target)
+    {
+        return Err(Refusal::Forbidden);
     }
+    Ok(())
 }
 
-// The code with which a call or terminate is refused, or 0.
-fn close_fault(text: &[u8], at: Place, held: Opened) -> u8
-    ensures { result ≡ first_code (close_rows text.now at.0 held) }
+// The test of a call or terminate.
+#[tactic(auto, unfolding(crate::specs::Judge::close_rows))]
+fn close_fault(text: &[u8], at: Place, held: Option<Opened>) -> Result<(), Refusal>
+    ensures { code_in result ≡ first_code (close_rows text.now at.0 held) }
 {
-    octets::refuse(
-        held.is_open(),
-        3,
-        octets::refuse(sequence::past(text, at) != sequence::limit(text), 3, 0),
-    )
+    if held.is_some() || sequence::past(text, at) != sequence::limit(text) {
+        return Err(Refusal::Forbidden);
+    }
+    Ok(())
 }
 
 // What the command at a place comes to.
-pub fn judge(text: &[u8], lent: Lent, lists: &[u8], at: Place, held: Opened) -> Act
+#[tactic(auto, unfolding(crate::specs::Judge::judge, crate::specs::Judge::judged, sequence::specs::Text::size_at))]
+pub fn judge(text: &[u8], lent: Lent, lists: &[u8], at: Place, held: Option<Opened>) -> Act
     ensures value { result ≡ judge (cards_lent lent lists.now) text.now at.0 held }
     ensures at_bound { at.0 + size_at text.now at.0 < 256 }
 {
     let command = sequence::command_at(text, at);
     match command {
         Command::RunRaster => unless(run_fault(text, lent, lists, at, held), Act::Opens),
-        Command::Expose(time) => unless(expose_fault(text, time, held), held.exposes()),
+        Command::Expose(time) => match expose_fault(text, time, held) {
+            Ok(raster) => Act::Exposes(raster),
+            Err(why) => Act::Refused(why.code()),
+        },
         Command::LoopBack(target) => unless(loop_fault(text, at, target, held), Act::Loops(target)),
         Command::CallSequence(n) => unless(close_fault(text, at, held), Act::Calls(n)),
         Command::Terminate => unless(close_fault(text, at, held), Act::Ends),
         Command::Delay(_) => Act::Waits,
-        Command::Nothing | Command::Unknown | Command::Unfit => Act::Refused(3),
+        Command::Nothing | Command::Unknown | Command::Unfit => Act::Refused(
+            Refusal::Forbidden.code(),
+        ),
     }
 }
 
@@ -514,20 +471,22 @@ impl Runner {
     pub const NONE: u8 = 255;
 
     // The raster that is open.
-    fn opened(self, format: Format) -> Opened
+    fn opened(self, format: Format) -> Option<Opened>
         ensures { result ≡ open_of format self }
     {
         let raster = self.raster;
         if raster.place == Runner::NONE {
-            return Opened::Shut;
+            return None;
         }
-        match Place::of(format, raster.place) {
-            Placed::At(place) => Opened::Open(place, raster.count, raster.run),
-            Placed::Outside => Opened::Shut,
-        }
+        Some(Opened {
+            place: Place::of(format, raster.place)?,
+            count: raster.count,
+            run: raster.run,
+        })
     }
 
     // Stopped with a fault, and nothing else changed.
+    #[tactic(auto, unfolding(crate::specs::Step::aborted))]
     fn aborted(self, fault: Fault) -> Stepped
         ensures { result ≡ aborted fault self }
     {
@@ -541,23 +500,24 @@ impl Runner {
         }
     }
 
-    // Stopped with a code at the runner's own place.
-    fn refused(self, code: u8) -> Stepped
-        ensures { result ≡ aborted (fault code self.place) self }
+    // Stopped at the runner's own place, with why its command is refused.
+    fn refused(self, why: Refusal) -> Stepped
+        ensures { result ≡ aborted (fault (code_of why) self.place) self }
     {
         self.aborted(Fault {
-            code,
+            code: why.code(),
             place: self.place,
         })
     }
 
     // The sequence entered, or why not.
+    #[tactic(auto, unfolding(crate::specs::Step::entered))]
     fn enter(self, text: &[u8]) -> Stepped
         ensures { result ≡ entered text.now self }
     {
         match sequence::header_of(text) {
-            Header::Bad(fault) => self.aborted(fault),
-            Header::Repeats(rounds) => Stepped {
+            Err(fault) => self.aborted(fault),
+            Ok(rounds) => Stepped {
                 event: Event::Enter(self.sequence),
                 runner: Runner {
                     place: 4,
@@ -571,18 +531,19 @@ impl Runner {
 
     // The run raster at the place begun: its first repeat, or the next, which doesn't reload the repeats. A repeat begins at the initial
     // position, moved by its shift.
+    // Stays: what stands at the place is asked of this, `expose` and `loop_back`, since the scope's own form has them take the runner itself.
+    #[tactic(auto, using(crate::proofs::Laws::path_passed), unfolding(crate::specs::Step::act))]
     fn run_raster(self, format: Format, text: &[u8], lists: &[u8], at: Place) -> Stepped
         requires { (at.0 ≡ self.place) × Stands text.now self Command.RunRaster }
         ensures { result ≡ act format text.now self (unless (first_code (run_rows (cards_of lists.now) text.now at.0 (open_of format self))) Act.Opens) }
     {
         let held = self.opened(format);
-        let code = run_fault(text, Lent::Lists, lists, at, held);
-        if code != 0 {
-            return self.refused(code);
+        if let Err(why) = run_fault(text, Lent::Lists, lists, at, held) {
+            return self.refused(why);
         }
-        let run = held.repeat_begun();
-        let start = start_at(text, at, run);
-        let position = start.position;
+        let run = repeat_begun(held);
+        let shift = shift_at(text, at, run);
+        let position = start_at(text, at, run, shift);
         Stepped {
             event: Event::Raster(
                 sequence::id_at(text, at),
@@ -595,13 +556,13 @@ impl Runner {
                     place: self.place,
                     count: 0,
                     passes: sequence::loops_at(text, at),
-                    repeats: if held.is_open() {
+                    repeats: if held.is_some() {
                         self.raster.repeats
                     } else {
                         sequence::repeats_at(text, at)
                     },
                     run,
-                    shift: start.shift,
+                    shift,
                 },
                 mirror: position,
                 ..self
@@ -610,13 +571,11 @@ impl Runner {
     }
 
     // Whether this exposure fills the set of the raster at a place and passes remain.
+    #[tactic(auto, unfolding(crate::specs::Step::advances))]
     fn advances(self, text: &[u8], raster: Place) -> bool
         ensures { result ≡ advances (raster_at text.now raster.0) self }
     {
-        if self.raster.passes <= 1 {
-            return false;
-        }
-        self.raster.count as u16 + 1 == set_of(text, raster) as u16
+        1 < self.raster.passes && self.raster.count as u16 + 1 == set_of(text, raster) as u16
     }
 
     // One exposure more, with the mirror where it stands after it.
@@ -639,36 +598,33 @@ impl Runner {
     }
 
     // An exposure in the open raster; where it fills the set and passes remain the mirror advances after it.
+    #[tactic(auto, unfolding(crate::specs::Step::act, crate::specs::Step::exposed))]
     fn expose(self, format: Format, text: &[u8], time: u16) -> Stepped
         requires { Stands text.now self (Command.Expose time) }
         ensures { result ≡ act format text.now self (unless (first_code (expose_rows text.now time (open_of format self))) (exposes_in (open_of format self))) }
     {
-        let held = self.opened(format);
-        let Opened::Open(raster, _, _) = held else {
-            return self.refused(3);
+        let raster = match expose_fault(text, time, self.opened(format)) {
+            Ok(raster) => raster,
+            Err(why) => return self.refused(why),
         };
-        let code = expose_fault(text, time, held);
-        if code != 0 {
-            return self.refused(3);
-        }
         if !self.advances(text, raster) {
             return self.exposed(self.mirror);
         }
-        let mirror = advanced(self.mirror, sequence::step_at(text, raster));
+        let mirror = self.mirror as u32 + sequence::step_at(text, raster) as u32;
         if (Runner::END_STOP as u32) < mirror {
-            return self.refused(14);
+            return self.refused(Refusal::MirrorOutOfRange);
         }
         self.exposed(mirror as u16)
     }
 
     // Another pass, another repeat, or the raster's end.
+    #[tactic(auto, unfolding(crate::specs::Step::act, crate::specs::Step::looped))]
     fn loop_back(self, format: Format, text: &[u8], at: Place, target: u8) -> Stepped
         requires { Stands text.now self (Command.LoopBack target) }
         ensures { result ≡ act format text.now self (unless (first_code (loop_rows text.now at.0 target (open_of format self))) (Act.Loops target)) }
     {
-        let code = loop_fault(text, at, target, self.opened(format));
-        if code != 0 {
-            return self.refused(3);
+        if let Err(why) = loop_fault(text, at, target, self.opened(format)) {
+            return self.refused(why);
         }
         let raster = self.raster;
         if 1 < raster.passes {
@@ -731,18 +687,18 @@ impl Runner {
     }
 
     // Another round, or the called sequence made the status sequence, to be entered next.
+    #[tactic(auto, unfolding(crate::specs::Step::act, crate::specs::Step::called))]
     fn call(self, format: Format, text: &[u8], at: Place, n: u8) -> Stepped
         ensures { result ≡ act format text.now self (unless (first_code (close_rows text.now at.0 (open_of format self))) (Act.Calls n)) }
     {
-        let code = close_fault(text, at, self.opened(format));
-        if code != 0 {
-            return self.refused(3);
+        if let Err(why) = close_fault(text, at, self.opened(format)) {
+            return self.refused(why);
         }
         if 1 < self.rounds {
             return self.another();
         }
         if format.last < n {
-            return self.refused(4);
+            return self.refused(Refusal::SequenceOutOfRange);
         }
         Stepped {
             event: Event::Call(n),
@@ -756,12 +712,12 @@ impl Runner {
     }
 
     // Another round, or the run's end.
+    #[tactic(auto, unfolding(crate::specs::Step::act, crate::specs::Step::ended))]
     fn terminate(self, format: Format, text: &[u8], at: Place) -> Stepped
         ensures { result ≡ act format text.now self (unless (first_code (close_rows text.now at.0 (open_of format self))) Act.Ends) }
     {
-        let code = close_fault(text, at, self.opened(format));
-        if code != 0 {
-            return self.refused(3);
+        if let Err(why) = close_fault(text, at, self.opened(format)) {
+            return self.refused(why);
         }
         if 1 < self.rounds {
             return self.another();
@@ -776,6 +732,7 @@ impl Runner {
     }
 
     // The step in a text: entering, or the command at the place.
+    #[tactic(auto, unfolding(crate::specs::Step::step_in, crate::specs::Step::act, crate::specs::Judge::judge, crate::specs::Judge::judged, sequence::specs::Text::size_of))]
     fn step_in(self, format: Format, text: &[u8], lists: &[u8]) -> Stepped
         requires { length text.now ≤ format.size }
         ensures { result ≡ step_in (env_of format lists.now) text.now self }
@@ -783,8 +740,8 @@ impl Runner {
         if self.entering {
             return self.enter(text);
         }
-        let Placed::At(at) = Place::of(format, self.place) else {
-            return self.refused(3);
+        let Some(at) = Place::of(format, self.place) else {
+            return self.refused(Refusal::Forbidden);
         };
         let command = sequence::command_at(text, at);
         match command {
@@ -794,11 +751,14 @@ impl Runner {
             Command::CallSequence(n) => self.call(format, text, at, n),
             Command::Terminate => self.terminate(format, text, at),
             Command::Delay(time) => self.delay(time),
-            Command::Nothing | Command::Unknown | Command::Unfit => self.refused(3),
+            Command::Nothing | Command::Unknown | Command::Unfit => self.refused(
+                Refusal::Forbidden,
+            ),
         }
     }
 
     // One step: idle when not running, else entering or one command.
+    #[tactic(auto, unfolding(crate::specs::Step::step_of))]
     pub fn step(self, format: Format, seqs: &[u8], lists: &[u8]) -> Stepped
         ensures { result ≡ step_of (env_of format lists.now) seqs.now self }
     {

@@ -4,10 +4,10 @@ use Rattle.std.proofs.Common.{◌≡◌, ℕ, zero, suc, ◌+◌, ◌-◌, ◌<�
 use borrow.Author.Tests.{eqb-false, not-false}
 use Rattle.octets.specs.Bytes.{byte_at, word_at}
 use Rattle.octets.proofs.Bools.{and_both, or-neither, by-test, choice}
+use Rattle.sequence.specs.declared.CommandRow.{CommandRow}
 use Rattle.sequence.specs.declared.Command.{Command}
 use Rattle.sequence.specs.declared.Command.TheVariants.{RunRaster, Expose, LoopBack, CallSequence, Terminate, Delay, Nothing, Unknown, Unfit}
-use Rattle.sequence.specs.declared.CommandRow.{CommandRow}
-use Rattle.sequence.specs.Text.{limit, length_good, row_of, number_of, commands_at, size_in, size_of, command_in, decoded, none_there, command_at, size_at, is_run_raster}
+use Rattle.sequence.specs.Text.{limit, length_good, row_of, number_of, commands_at, size_in, size_of, command_in, decoded, none_there, command_at, size_at}
 use Rattle.sequence.specs.Starts.{starts}
 
 -- ── the checksum's place
@@ -69,7 +69,7 @@ module _ (P : Command → Type 0) where
       (λ e f. of_number n (commands_at text (p + 1)) (λ s. b) (let w = some-there text p e in d record { from = w.from; fits = ltb-false (limit text) (p + size_of n) f; inside = w.inside }))
 
 -- ── the rows of the commands
--- a test of every row of a table holds of the row at a place
+-- the rule of a table, tested of each of its rows: a row has the bytes of its number, and no more than 23
 abbrev pub all_rows : (CommandRow → Bool) → List CommandRow → Bool
 all_rows test [] = true
 all_rows test (r ∷ rs) = test r && all_rows test rs
@@ -79,7 +79,6 @@ row_at test [] k d e h = absurd (omega arith)
 row_at test (r ∷ rs) zero d e h = (and_both (test r) (all_rows test rs) e).0
 row_at test (r ∷ rs) (suc k) d e h = row_at test rs k d (and_both (test r) (all_rows test rs) e).1 (omega arith)
 
--- the rule of the table: a row has the bytes of its number, and no more than 23
 abbrev pub row_right : CommandRow → Bool
 row_right r = eqb r.size (size_of r.op) && leb r.size 23
 
@@ -166,15 +165,6 @@ module _ (text : List ℕ) (p : ℕ) where
   pub size_below : byte_at text 0 < 256 → p < 256 → p + size_at text p < 256
   unfolding limit
   size_below b h = ⊎_elim (λ e. omega arith) (λ w. omega arith) size-whole
-
--- a run raster stands where the number says so and a command stands whole
-pub raster-stands : (text : List ℕ) (p : ℕ) → is_run_raster (command_at text p) ≡ cond (eqb (size_at text p) 0) false (eqb (byte_at text p) (number_of RunRaster))
-unfolding size_at size_of
-raster-stands text p =
-    of-command Stands text p refl refl refl (λ w. (λ e. rw e, (λ e. rw e, (λ e. rw e, (λ e. rw e, (λ e. rw e, (λ e. rw e, tt)))))))
-  where
-    Stands : Command → Type 0
-    Stands k = is_run_raster k ≡ cond (eqb (size_of (number_of k)) 0) false (eqb (byte_at text p) (number_of RunRaster))
 
 -- no command stands at the checksum
 pub none_last : (text : List ℕ) → size_at text (limit text) ≡ 0

@@ -1,22 +1,20 @@
 -- What passes its test has a length within its bytes: a text whose header is good, and a line list that is. Assumes nothing.
-use Rattle.std.proofs.Common.{◌≡◌, ℕ, ◌+◌, ◌*◌, ◌≤◌, ◌&&◌, eqb, leb, List, length, arith, eqb-true, leb-true}
+use Rattle.std.proofs.Common.{◌≡◌, ℕ, ◌+◌, ◌*◌, ◌≤◌, ◌&&◌, eqb, leb, List, length, arith, eqb-true, leb-true, Ok}
 use borrow.Author.Tests.{not-false}
 use Rattle.octets.specs.Bytes.{byte_at}
 use Rattle.octets.specs.Rows.{first_code}
 use Rattle.octets.proofs.Bools.{and_both, by-test, clash}
 use Rattle.octets.proofs.Laws.{none-holds}
-use Rattle.sequence.specs.declared.Header.TheVariants.{Repeats}
 use Rattle.sequence.specs.declared.Marks.{Marks}
-use Rattle.sequence.specs.declared.ListCard.TheVariants.{Good}
 use Rattle.sequence.specs.Text.{length_good, header_rows, header_by, header_of}
 use Rattle.sequence.specs.LineList.{list_card}
 
 -- a header that has repeats is refused by no row
-unrefused : (repeats code q : ℕ) → header_by repeats code ≡ Repeats q → code ≡ 0
+unrefused : (repeats code q : ℕ) → header_by repeats code ≡ Ok q → code ≡ 0
 unrefused repeats code q e = by-test (eqb code 0) (eqb-true code 0) (λ t. let f = rw t at e in absurd (clash (cc)))
 
 -- so its length is 6 at least, and no more than its bytes
-pub header-length : (text : List ℕ) (q : ℕ) → header_of text ≡ Repeats q → (6 ≤ byte_at text 0) × (byte_at text 0 ≤ length text)
+pub header-length : (text : List ℕ) (q : ℕ) → header_of text ≡ Ok q → (6 ≤ byte_at text 0) × (byte_at text 0 ≤ length text)
 unfolding header_of header_rows length_good
 header-length text q e =
     let n = byte_at text 0 in
@@ -25,7 +23,7 @@ header-length text q e =
     (leb-true 6 n a, leb-true n (length text) b)
 
 -- a good list passed both tests of its length, whichever comes first: so it has that of 1 to 25 windows
-pub card-length : (l : List ℕ) (marks : Marks) → list_card l ≡ Good marks → (20 ≤ byte_at l 0) × (byte_at l 0 ≤ 164)
+pub card-length : (l : List ℕ) (marks : Marks) → list_card l ≡ Ok marks → (20 ≤ byte_at l 0) × (byte_at l 0 ≤ 164)
 unfolding list_card
 card-length l marks e =
     let n = byte_at l 2 in

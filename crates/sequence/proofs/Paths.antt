@@ -71,9 +71,6 @@ module _ (raster : RasterWords) (k : ℕ) where
         (λ t. absurd (true≢false (sym (strays-below e (ltb-true raster.initial (moved_by raster k) t)) ∙ stays)))
         (ltb-false raster.initial (moved_by raster k))
 
-    pub start_back : backward raster ≡ true → start_of raster k ≡ raster.initial - moved_by raster k
-    start_back e = ap nat_abs (begins-back e (moved-less e))
-
 -- ── every repeat
 module _ (raster : RasterWords) where
   -- the shift goes one way
@@ -125,13 +122,6 @@ module _ (raster : RasterWords) where
       (λ e. or-either (strays raster 0) (strays raster last) e (strays-some (suc last) 0 (omega arith)) (strays-some (suc last) last (omega arith)))
 
   -- ── the test of a path
-  pub leaves-ends : (last k : ℕ) → raster.repeats ≡ suc last → leaves raster k ≡ ((strays raster 0 || strays raster last) || strays raster k)
-  leaves-ends last k e = ap (λ (b : Bool). b || strays raster k) (ap (some_strays raster) e ∙ ends-decide last)
-
-  pub leaves_none : (k : ℕ) → raster.repeats ≡ 0 → leaves raster k ≡ strays raster k
-  unfolding some_strays
-  leaves_none k e = rw e
-
   -- with an ASRC byte of 0 every repeat takes the same path, and no shift is made
   module _ (off : raster.asrc ≡ 0) where
     unmoved : (j : ℕ) → moved_by raster j ≡ 0

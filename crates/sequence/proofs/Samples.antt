@@ -1,9 +1,8 @@
 -- The samples of document 01 for the header and the loop back, as rows of one list; those of line lists are among promises'. Assumes nothing.
-use Rattle.std.proofs.Common.{◌≡◌, ℕ, true, cond, List, [], ◌∷◌, ◌++◌, take, replicate, refl}
+use Rattle.std.proofs.Common.{◌≡◌, ℕ, true, cond, List, [], ◌∷◌, ◌++◌, take, replicate, refl, Result, Ok, Err}
 use Rattle.octets.specs.Bytes.{xor_on}
 use Rattle.octets.proofs.Samples.{Sample, sample, all_right}
-use Rattle.sequence.specs.declared.Header.{Header}
-use Rattle.sequence.specs.declared.Header.TheVariants.{Repeats, Bad}
+use Rattle.sequence.specs.declared.Fault.{Fault}
 use Rattle.sequence.specs.Text.{limit, length_good, xor_good, header_rows, header_of, size_of, decoded, none_there, command_at, size_at}
 use Rattle.sequence.specs.Starts.{starts, starts_of, among, exposes_between, first_exposure, target_good}
 use Rattle.sequence.proofs.SampleTables.{ends, the_raster}
@@ -13,9 +12,9 @@ abbrev sequence_of : List ℕ → List ℕ
 sequence_of bytes = take 128 (bytes ++ replicate 128 0)
 
 -- 0 and the repeats, or the code and the place of the fault
-abbrev header_numbers : Header → List ℕ
-header_numbers (Repeats n) = 0 ∷ n ∷ []
-header_numbers (Bad f) = f.code ∷ f.place ∷ []
+abbrev header_numbers : Result ℕ Fault → List ℕ
+header_numbers (Ok n) = 0 ∷ n ∷ []
+header_numbers (Err f) = f.code ∷ f.place ∷ []
 
 abbrev enters : List ℕ → List ℕ
 enters bytes = header_numbers (header_of (sequence_of bytes))

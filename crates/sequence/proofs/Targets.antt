@@ -1,7 +1,7 @@
 -- What a loop back may jump to, by one walk of the starts: past those up to the raster, then on to its first exposure.
 -- Assumes nothing.
-use Rattle.std.proofs.Common.{◌≡◌, ℕ, ◌+◌, ◌<◌, ◌≤◌, Bool, true, false, ◌&&◌, ◌||◌, eqb, leb, ◌⊎◌, List, length, sym, refl, ◌∙◌, inl, inr, arith, le-ltb, lt-ltb, eq-eqb, ne_eqb, eqb-true, le-leb}
-use mathlib.Core.Bool.{and-false, or-true, or-false, or_assoc}
+use Rattle.std.proofs.Common.{◌≡◌, ℕ, ◌+◌, ◌<◌, ◌≤◌, Bool, true, false, ◌&&◌, ◌||◌, eqb, leb, List, length, sym, refl, arith, le-ltb, lt-ltb, ne_eqb, eqb-true, le-leb}
+use mathlib.Core.Bool.{and-false, or_assoc}
 use borrow.Author.Tests.{eqb-false, lt-leb}
 use Rattle.octets.specs.Bytes.{byte_at}
 use Rattle.octets.proofs.Bools.{or-either, by-test}
@@ -16,11 +16,6 @@ at_last true e a l f g = f refl
 at_last false true a l f g = f refl
 at_last false false true l f g = g refl
 at_last false false false l f g = refl
-
--- whether the target is this start, or was seen before it
-pub sighted : (p t : ℕ) (s seen : Bool) → ((p ≡ t) × (seen ≡ true)) ⊎ ((p ≡ t → ⊥) × (seen ≡ s)) → seen ≡ (s || eqb p t)
-sighted p t s seen (inl (e, h)) = rw (eq-eqb p t e) (h ∙ sym (or-true s))
-sighted p t s seen (inr (e, h)) = rw (ne_eqb p t e) (h ∙ sym (or-false s))
 
 pub seen_by : (p t : ℕ) (s : Bool) → (s ≡ true → t < p) → (s || eqb p t) ≡ true → t ≤ p
 seen_by p t s f h = or-either s (eqb p t) h (λ e. let l = f e in omega arith) (λ e. omega (arith, eqb-true p t e))
@@ -57,14 +52,14 @@ module _ (text : List ℕ) (r q t : ℕ) where
     unfolding among first_exposure exposes_between
     leads-before h l = rw (starts_from text p size e z, ne_eqb p t (λ f. omega arith), le-ltb r p l)
 
-    module _ (seen now : Bool) (s : now ≡ (seen || eqb p t)) (h : r < p) (l : p < q) where
-      pub leads-on : (byte_at text p ≡ number_of (Expose 0) → ⊥) → leads seen p ≡ leads now (p + size)
+    module _ (seen : Bool) (h : r < p) (l : p < q) where
+      pub leads-on : (byte_at text p ≡ number_of (Expose 0) → ⊥) → leads seen p ≡ leads (seen || eqb p t) (p + size)
       unfolding among first_exposure exposes_between
-      leads-on o = rw (s, starts_from text p size e z, lt-ltb r p h, lt-ltb p q l, ne_eqb (byte_at text p) (number_of (Expose 0)) o, ← or_assoc seen (eqb p t))
+      leads-on o = rw (starts_from text p size e z, lt-ltb r p h, lt-ltb p q l, ne_eqb (byte_at text p) (number_of (Expose 0)) o, ← or_assoc seen (eqb p t))
 
-      pub leads-at : byte_at text p ≡ number_of (Expose 0) → (seen ≡ true → t < p) → now ≡ leads seen p
+      pub leads-at : byte_at text p ≡ number_of (Expose 0) → (seen ≡ true → t < p) → (seen || eqb p t) ≡ leads seen p
       unfolding among first_exposure exposes_between
       leads-at o f =
-          rw (s, starts_from text p size e z, lt-ltb r p h, lt-ltb p q l, o)
+          rw (starts_from text p size e z, lt-ltb r p h, lt-ltb p q l, o)
           (sym (at_last seen (eqb p t) (among t (starts text (length text) (p + size))) (leb t p) (λ k. le-leb t p (seen_by p t seen f k))
           (λ k. let w = hops-le (start-hops text (length text) (p + size) t k).1.0 in lt-leb t p (omega arith))))

@@ -1,52 +1,34 @@
 -- Laws of a line list's windows: the bits of a header, the marks that a walk over the bytes sees, and the marks that a card has.
 -- Assumes nothing.
-use Rattle.std.proofs.Common.{◌≡◌, ℕ, zero, suc, ◌+◌, ◌-◌, ◌*◌, ◌/◌, ◌%◌, ◌^◌, ◌<◌, ◌≤◌, Bool, true, false, ◌&&◌, ◌||◌, eqb, leb, ◌⊎◌, List, length, take, sym, refl, ap, ◌∙◌, ⊎_elim, arith, length-take, get_or-take, eqb-true, leb-false, leb-true}
-use native.Mathlib.Nat.{zero-div}
-use lib.Bits.{bit_or, or_comm, or_shr, or_mod}
-use lib.Pow.{field, mod-mod-pow}
+use Rattle.std.proofs.Common.{Ok, ◌≡◌, ℕ, zero, suc, ◌+◌, ◌-◌, ◌*◌, ◌/◌, ◌%◌, max, ◌<◌, ◌≤◌, Bool, true, false, cond, ◌&&◌, ◌||◌, eqb, leb, ◌⊎◌, List, length, take, sym, refl, ap, ◌∙◌, ⊎_elim, arith, length-take, get_or-take, eqb-true, leb-false, leb-true}
+use lib.Bits.{bit_or, or_comm}
+use Rattle.std.specs.Int.{bit_at}
+use Rattle.std.proofs.lemmas.Bool.Decides.{nat_tests}
+use Rattle.std.proofs.lemmas.Nat.Bits.{bit_at_or, bit_at-lt, bit_at-zero, bit_at_cat_low}
 use Rattle.octets.specs.Bytes.{byte_at, byte_bit, word_bit}
 use borrow.Author.Tests.{eqb-false}
 use Rattle.octets.proofs.Bools.{and_both, by-test, agree, agreed, all_below, below_all}
 use Rattle.octets.proofs.Laws.{byte_past}
 use Rattle.sequence.specs.declared.Marks.{Marks}
-use Rattle.sequence.specs.declared.ListCard.TheVariants.{Good}
-use Rattle.sequence.specs.LineList.{marked, marks_of, card_with}
-use Rattle.sequence.proofs.Sums.{digit}
+use Rattle.sequence.specs.LineList.{marked, marks_of, marks_read, no_marks, ListCard, card_with}
 
 -- ── bits
--- numbers with the same low byte have the same bits in it
-same_low : (n m e : ℕ) → e < 8 → n % 2 ^ 8 ≡ m % 2 ^ 8 → n / 2 ^ e % 2 ≡ m / 2 ^ e % 2
-same_low n m e h s = sym (field n 1 e) ∙ ap (λ (x : ℕ). x / 2 ^ e) (part n ∙ ap (λ (x : ℕ). x % 2 ^ (1 + e)) s ∙ sym (part m)) ∙ field m 1 e
-  where
-    whole : 7 - e + (1 + e) ≡ 8
-    whole = omega arith
-
-    part : (x : ℕ) → x % 2 ^ (1 + e) ≡ x % 2 ^ 8 % 2 ^ (1 + e)
-    part x = sym (mod-mod-pow x (7 - e) (1 + e)) ∙ ap (λ (w : ℕ). x % 2 ^ w % 2 ^ (1 + e)) whole
-
 -- bit 8 + b of a word is bit b of its low byte
 header-bit : (high low b : ℕ) → b < 8 → word_bit (8 + b) (high * 256 + low) ≡ byte_bit b low
 header-bit high low b h =
     let e : 15 - (8 + b) ≡ 7 - b = omega arith in
-    let s : (high * 256 + low) % 2 ^ 8 ≡ low % 2 ^ 8 = omega arith in
-    ap (λ (x : ℕ). eqb x 1) (ap (λ (x : ℕ). (high * 256 + low) / 2 ^ x % 2) e ∙ same_low (high * 256 + low) low (7 - b) (omega arith) s)
+    ap (λ (n : ℕ). eqb n 1) (ap (bit_at (high * 256 + low)) e ∙ bit_at_cat_low high 8 low (7 - b) (omega arith))
 
 -- 0 has none
 zero_bit : (b : ℕ) → byte_bit b 0 ≡ false
-zero_bit b = ap (λ (n : ℕ). eqb (n % 2) 1) (zero-div (2 ^ (7 - b)))
+zero_bit b = ap (λ (n : ℕ). eqb n 1) (bit_at-zero (7 - b))
 
 -- a bit of two bytes put together is set where it is in one of them
-digits-or : (x y : ℕ) → eqb (bit_or (x % 2) (y % 2)) 1 ≡ (eqb (x % 2) 1 || eqb (y % 2) 1)
-digits-or x y =
-    digit (λ (a : ℕ). eqb (bit_or a (y % 2)) 1 ≡ (eqb a 1 || eqb (y % 2) 1))
-    (digit (λ (b : ℕ). eqb (bit_or 0 b) 1 ≡ (eqb 0 1 || eqb b 1)) refl refl y)
-    (digit (λ (b : ℕ). eqb (bit_or 1 b) 1 ≡ (eqb 1 1 || eqb b 1)) refl refl y)
-    x
+either-bit : (m n : ℕ) → m < 2 → n < 2 → eqb (max m n) 1 ≡ (eqb m 1 || eqb n 1)
+either-bit m n h k = grind (arith, nat_tests)
 
 or-bit : (x y b : ℕ) → byte_bit b (bit_or x y) ≡ (byte_bit b x || byte_bit b y)
-or-bit x y b =
-    let e = 7 - b in
-    ap (λ (n : ℕ). eqb n 1) (ap (λ (n : ℕ). n % 2) (or_shr x y e) ∙ or_mod (x / 2 ^ e) (y / 2 ^ e) 1) ∙ digits-or (x / 2 ^ e) (y / 2 ^ e)
+or-bit x y b = let e = 7 - b in ap (λ (n : ℕ). eqb n 1) (bit_at_or x y e) ∙ either-bit (bit_at x e) (bit_at y e) (bit_at-lt x e) (bit_at-lt y e)
 
 -- ── the walk over the bytes
 -- the code's count at byte k, what it tells of it, and that this is right of every byte that a list can have: one test, computed
@@ -64,10 +46,6 @@ count_right k = agree (count_low (count_at k)) (is_low k)
 
 counts-right : all_below count_right 164 ≡ true
 counts-right = refl
-
--- where no marks are wanted, none are seen
-pub none-wanted : (wanted t : Bool) (b : ℕ) → wanted ≡ false → byte_bit b 0 ≡ (wanted && t)
-none-wanted wanted t b e = zero_bit b ∙ sym (ap (λ (w : Bool). w && t) e)
 
 module _ (list : List ℕ) where
   -- what is seen in the first k bytes: the marks of the windows whose headers stand there whole
@@ -93,18 +71,11 @@ module _ (list : List ℕ) where
   other-seen : (seen k : ℕ) → is_low k ≡ false → Seen seen k → Seen seen (k + 1)
   other-seen seen k e s b h = s b h ∙ ap (marked list (8 + b)) (by-test (leb 15 k) (λ t. let n = eqb-false (k % 6) 3 (rw t at e) in omega (arith, leb-true 15 k t)) (λ t. omega (arith, leb-false 15 k t)))
 
-  -- what was seen in all bytes, where it is wanted
-  pub all_wanted : (wanted : Bool) (seen k : ℕ) → wanted ≡ true → k ≤ length list → length list ≤ k → Seen seen k
-      → (b : ℕ) → b < 8 → byte_bit b seen ≡ (wanted && marked list (8 + b) ((length list - 10) / 6))
-  all_wanted wanted seen k e h l s b d =
-      let at : k ≡ length list = omega arith in
-      s b d ∙ ap (λ (n : ℕ). marked list (8 + b) ((n - 10) / 6)) at ∙ sym (ap (λ (w : Bool). w && marked list (8 + b) ((length list - 10) / 6)) e)
-
   -- byte k more, as the count at it has it
-  pub seen-on : (seen new k count : ℕ) (low : Bool) → k < 164 → count ≡ count_at k → low ≡ count_low count
-      → ((low ≡ true) × (new ≡ bit_or seen (byte_at list k))) ⊎ ((low ≡ false) × (new ≡ seen)) → Seen seen k → Seen new (k + 1)
-  seen-on seen new k count low h c l way s =
-      let is : is_low k ≡ low = sym (l ∙ ap count_low c ∙ agreed (count_low (count_at k)) (is_low k) (below_all count_right 164 k counts-right h)) in
+  pub seen-on : (seen new k count : ℕ) → k < 164 → count ≡ count_at k
+      → ((count_low count ≡ true) × (new ≡ bit_or seen (byte_at list k))) ⊎ ((count_low count ≡ false) × (new ≡ seen)) → Seen seen k → Seen new (k + 1)
+  seen-on seen new k count h c way s =
+      let is : is_low k ≡ count_low count = sym (ap count_low c ∙ agreed (count_low (count_at k)) (is_low k) (below_all count_right 164 k counts-right h)) in
       ⊎_elim
       (λ w b d. ap (byte_bit b) w.1 ∙ low-seen seen k (is ∙ w.0) s b d)
       (λ w b d. ap (byte_bit b) w.1 ∙ other-seen seen k (is ∙ w.0) s b d)
@@ -139,18 +110,24 @@ list-marked l whole n b h e =
     let short : length whole ≤ 14 + 6 * n = rw (e, length-take) (omega arith) in
     sym (past-unmarked whole b w h (omega arith) n (omega arith)) ∙ ap (λ (s : List ℕ). marked s (8 + b) n) e ∙ taken-marked l (14 + 6 * n) (8 + b) n (omega arith)
 
-module _ (l : List ℕ) (n : ℕ) (counted : n ≡ byte_at l 2) where
-  with-marks : (wanted : Bool) (m : Marks) → m.aec ≡ (wanted && marked l 11 n) → m.event ≡ (wanted && marked l 12 n) → m.flare ≡ (wanted && marked l 13 n)
-      → Good m ≡ card_with wanted (Good (marks_of l))
-  unfolding marks_of
-  with-marks true m a v f = λ i. Good (record { aec = (a ∙ ap (marked l 11) counted) i; event = (v ∙ ap (marked l 12) counted) i; flare = (f ∙ ap (marked l 13) counted) i })
-  with-marks false m a v f = λ i. Good (record { aec = a i; event = v i; flare = f i })
+-- the marks in what such a walk has seen are the list's, if they were wanted
+by-wanted : (wanted a v f : Bool) → let m : Marks = record { aec = wanted && a; event = wanted && v; flare = wanted && f } in
+    m ≡ cond wanted (record { aec = a; event = v; flare = f }) no_marks
+by-wanted true a v f = refl
+by-wanted false a v f = refl
 
-  -- the marks in what a walk over the list has seen are the list's, if they were wanted
-  pub marks-seen : (whole : List ℕ) (wanted : Bool) (seen : ℕ) (m : Marks) → whole ≡ take (14 + 6 * n) l
-      → ((b : ℕ) → b < 8 → byte_bit b seen ≡ (wanted && marked whole (8 + b) ((length whole - 10) / 6)))
-      → (m.aec ≡ byte_bit 3 seen) × (m.event ≡ byte_bit 4 seen) × (m.flare ≡ byte_bit 5 seen) → Good m ≡ card_with wanted (Good (marks_of l))
-  marks-seen whole wanted seen m e s (a, v, f) = with-marks wanted m (a ∙ has 3 (omega arith)) (v ∙ has 4 (omega arith)) (f ∙ has 5 (omega arith))
-    where
-      has : (b : ℕ) → b < 8 → byte_bit b seen ≡ (wanted && marked l (8 + b) n)
-      has b h = s b h ∙ ap (λ (t : Bool). wanted && t) (list-marked l whole n b h e)
+-- the card of a good list with the marks of the windows that byte 2 counts, if they were wanted
+pub with-marks : (l : List ℕ) (n : ℕ) → n ≡ byte_at l 2 → (wanted : Bool) (m : Marks)
+    → m.aec ≡ (wanted && marked l 11 n) → m.event ≡ (wanted && marked l 12 n) → m.flare ≡ (wanted && marked l 13 n)
+    → ◌≡◌ {A = ListCard} (Ok m) (card_with wanted (Ok (marks_of l)))
+unfolding marks_of
+with-marks l n counted true m a v f = λ i. Ok (record { aec = (a ∙ ap (marked l 11) counted) i; event = (v ∙ ap (marked l 12) counted) i; flare = (f ∙ ap (marked l 13) counted) i })
+with-marks l n counted false m a v f = λ i. Ok (record { aec = a i; event = v i; flare = f i })
+
+pub marks-seen : (l whole : List ℕ) (n : ℕ) (wanted : Bool) (seen : ℕ) → n ≡ byte_at l 2 → whole ≡ take (14 + 6 * n) l
+    → ((b : ℕ) → b < 8 → byte_bit b seen ≡ (wanted && marked whole (8 + b) ((length whole - 10) / 6))) → marks_read seen ≡ cond wanted (marks_of l) no_marks
+unfolding marks_of
+marks-seen l whole n wanted seen counted e s = rw (has 3 (omega arith), has 4 (omega arith), has 5 (omega arith)) (by-wanted wanted _ _ _)
+  where
+    has : (b : ℕ) → b < 8 → byte_bit b seen ≡ (wanted && marked l (8 + b) (byte_at l 2))
+    has b h = s b h ∙ ap (λ (t : Bool). wanted && t) (list-marked l whole n b h e ∙ ap (marked l (8 + b)) counted)

@@ -2,10 +2,9 @@
 use Rattle.std.specs.Prelude.{ℕ, ◌*◌, List, take, drop}
 use Rattle.memory.specs.declared.Format.{Format}
 use Rattle.memory.specs.Memory.{entry_of, list_of}
-use Rattle.sequence.specs.declared.ListCard.{ListCard}
 use Rattle.sequence.specs.declared.Lent.{Lent}
 use Rattle.sequence.specs.declared.Lent.TheVariants.{Lists, Cards}
-use Rattle.sequence.specs.LineList.{list_card, card_read}
+use Rattle.sequence.specs.LineList.{ListCard, list_card, card_read}
 
 pub record Env : Type 0 where
   pub format : Format

@@ -1,12 +1,14 @@
 -- A line list's card: what is known of it.
-use Rattle.std.specs.Prelude.{ℕ, zero, suc, ◌+◌, ◌*◌, Bool, false, cond, not, ◌&&◌, ◌||◌, List, [], ◌∷◌, ◌++◌, take, drop, ◌==◌, nat_le}
+use Rattle.std.specs.Prelude.{ℕ, zero, suc, ◌+◌, ◌*◌, Bool, false, cond, not, ◌&&◌, ◌||◌, List, [], ◌∷◌, ◌++◌, take, drop, ◌==◌, nat_le, Result, Ok, Err}
 use Rattle.octets.specs.Bytes.{byte_at, word_at, byte_bit, word_bit, xor_of}
 use Rattle.sequence.specs.declared.Marks.{Marks}
 use Rattle.sequence.specs.declared.BadList.{BadList}
 use Rattle.sequence.specs.declared.BadList.TheVariants.{WindowCount, Length, Checksum}
-use Rattle.sequence.specs.declared.ListCard.{ListCard}
-use Rattle.sequence.specs.declared.ListCard.TheVariants.{Good, Bad}
 use Rattle.sequence.specs.declared.ReasonNumbers.{ReasonNumbers}
+
+-- a good line list with its marks, or what makes it bad
+abbrev pub ListCard : Type 0
+ListCard = Result Marks BadList
 
 -- "checksum is the XOR of the other bytes of that length"
 unfoldable pub checksum_of : List ℕ → ℕ
@@ -29,10 +31,10 @@ marks_of l = record { aec = marked l 11 (byte_at l 2); event = marked l 12 (byte
 -- says "which: window count, length or checksum, tested in that order, and for a checksum the value expected"; a good list has its marks
 unfoldable pub list_card : List ℕ → ListCard
 list_card l =
-    cond (not (nat_le 1 (byte_at l 2) && nat_le (byte_at l 2) 25)) (Bad WindowCount)
-    (cond (not (byte_at l 0 == 14 + 6 * byte_at l 2)) (Bad Length)
-    (cond (not (byte_at l 3 == checksum_of l)) (Bad (Checksum (checksum_of l)))
-    (Good (marks_of l))))
+    cond (not (nat_le 1 (byte_at l 2) && nat_le (byte_at l 2) 25)) (Err WindowCount)
+    (cond (not (byte_at l 0 == 14 + 6 * byte_at l 2)) (Err Length)
+    (cond (not (byte_at l 3 == checksum_of l)) (Err (Checksum (checksum_of l)))
+    (Ok (marks_of l))))
 
 -- its answers, and the reasons of a fault, by number and value
 abbrev pub reason_as : ℕ → ℕ → ReasonNumbers
@@ -44,16 +46,16 @@ bad_shown Length = reason_as 2 0
 bad_shown (Checksum expected) = reason_as 3 expected
 
 abbrev pub card_shown : ListCard → ReasonNumbers
-card_shown (Good marks) = reason_as 0 0
-card_shown (Bad bad) = bad_shown bad
+card_shown (Ok marks) = reason_as 0 0
+card_shown (Err bad) = bad_shown bad
 
 -- its marks: a bad list has none
 abbrev pub no_marks : Marks
 no_marks = record { aec = false; event = false; flare = false }
 
 abbrev pub marks_in : ListCard → Marks
-marks_in (Good marks) = marks
-marks_in (Bad bad) = no_marks
+marks_in (Ok marks) = marks
+marks_in (Err bad) = no_marks
 
 -- a card in four bytes: "the reason's number (0 good), the expected value, the marks (10, 08, 04), zero"
 abbrev pub mark_bits : Marks → ℕ
@@ -68,12 +70,12 @@ marks_read bits = record { aec = byte_bit 3 bits; event = byte_bit 4 bits; flare
 
 abbrev pub card_read : List ℕ → ListCard
 card_read card =
-    cond (byte_at card 0 == 0) (Good (marks_read (byte_at card 2)))
-    (cond (byte_at card 0 == 1) (Bad WindowCount)
-    (cond (byte_at card 0 == 2) (Bad Length)
-    (Bad (Checksum (byte_at card 1)))))
+    cond (byte_at card 0 == 0) (Ok (marks_read (byte_at card 2)))
+    (cond (byte_at card 0 == 1) (Err WindowCount)
+    (cond (byte_at card 0 == 2) (Err Length)
+    (Err (Checksum (byte_at card 1)))))
 
 -- for the code: a card without the marks that nobody wants
 abbrev pub card_with : Bool → ListCard → ListCard
-card_with wanted (Good marks) = Good (cond wanted marks no_marks)
-card_with wanted (Bad bad) = Bad bad
+card_with wanted (Ok marks) = Ok (cond wanted marks no_marks)
+card_with wanted (Err bad) = Err bad

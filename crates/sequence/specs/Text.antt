@@ -1,13 +1,11 @@
 -- A sequence's text: its length, its checksum, its repeats, and the command at a place.
-use Rattle.std.specs.Prelude.{ℕ, ◌+◌, ◌-◌, Bool, true, false, cond, not, ◌&&◌, ◌||◌, List, [], ◌∷◌, map, length, take, ◌==◌, nat_le, nat_lt}
+use Rattle.std.specs.Prelude.{ℕ, ◌+◌, ◌-◌, Bool, true, false, cond, not, ◌&&◌, ◌||◌, List, [], ◌∷◌, map, length, take, ◌==◌, nat_le, nat_lt, Result, Ok, Err}
 use Rattle.octets.specs.Bytes.{byte_at, word_at, xor_of}
 use Rattle.octets.specs.Rows.{Row, row, first_code}
 use Rattle.sequence.specs.declared.Command.{Command}
 use Rattle.sequence.specs.declared.Command.TheVariants.{RunRaster, Expose, LoopBack, CallSequence, Terminate, Delay, Nothing, Unknown, Unfit}
 use Rattle.sequence.specs.declared.CommandRow.{CommandRow}
 use Rattle.sequence.specs.declared.Fault.{Fault}
-use Rattle.sequence.specs.declared.Header.{Header}
-use Rattle.sequence.specs.declared.Header.TheVariants.{Repeats, Bad}
 
 -- "byte 0 length 6 to 128": an entry's size is the length of its text
 unfoldable pub length_good : List ℕ → Bool
@@ -32,10 +30,10 @@ header_rows text = row 2 (not (length_good text)) ∷ row 2 (not (xor_good text)
 abbrev pub header_place : ℕ → ℕ
 header_place code = cond (code == 10) 3 0
 
-abbrev pub header_by : ℕ → ℕ → Header
-header_by repeats code = cond (code == 0) (Repeats repeats) (Bad (fault code (header_place code)))
+abbrev pub header_by : ℕ → ℕ → Result ℕ Fault
+header_by repeats code = cond (code == 0) (Ok repeats) (Err (fault code (header_place code)))
 
-unfoldable pub header_of : List ℕ → Header
+unfoldable pub header_of : List ℕ → Result ℕ Fault
 header_of text = header_by (byte_at text 3) (first_code (header_rows text))
 
 -- "Six commands, numbers ours: 90 run raster (23 bytes), 91 expose (word: time, not 0), 92 loop back (byte: place), 93 call (byte),

@@ -1,15 +1,17 @@
 -- Parts of one size in a row: what a write leaves of each, and that all of them are the whole. Assumes nothing.
 use Prim.Native.Nat.{ℕ, zero, suc, ◌+◌, ◌*◌, ◌-◌, ◌≤◌, ◌<◌}
-use native.Mathlib.Nat.{add-zero, zero-add}
+use native.Mathlib.Nat.{add-zero, zero-add, suc-mul}
 use native.Mathlib.Omega.{arith}
 use mathlib.Core.Path.{◌≡◌, refl, sym, ap, ap₂, ◌∙◌}
 use mathlib.Core.List.{List, [], ◌++◌, append-nil, append_assoc}
 use mathlib.Core.Logic.{◌⊎◌, inl, inr}
-use lib.ListN.{length, get_or, take, drop, length-take, length-drop, length-append, take-append-drop}
+use lib.ListN.{length, get_or, take, drop, length-take, length-drop, length-append}
 use lib.Seq.{ext_get_or, take-add, take_all, drop-drop, take_at, drop_at, drop-append-add}
+use Rattle.std.proofs.lemmas.List.{drop-take, take-take}
 use Rattle.memory.specs.declared.Format.{Format}
 use Rattle.memory.specs.Memory.{written}
 use Rattle.memory.proofs.Laws.{written-length, written-other, written_same, part-byte, part-long}
+use Rattle.std.specs.Simd.{first_chunks}
 use Rattle.survey.specs.Turns.{turns}
 use Rattle.summary.specs.Summary.{laid, lines_at, card_in, line_in}
 
@@ -62,18 +64,30 @@ module _ (size : ℕ) (card : ℕ → List ℕ) where
         rw (e, d, append_assoc (card n) (turns (suc n) f (λ i left. card i)) rest)
         (ap (take size) (drop-append-add (card n) (turns (suc n) f (λ i left. card i) ++ rest) (k * size)) ∙ turns-part rest f (suc n) k (omega arith))
 
+-- the library's chunks are the parts
+pub chunk-at : (size count n : ℕ) (s : List ℕ) → n < count → get_or (first_chunks size count s) n [] ≡ take size (drop (n * size) s)
+chunk-at size zero n s l = absurd (omega arith)
+chunk-at size (suc count) zero s l = let z : 0 * size ≡ 0 = omega arith in rw z
+chunk-at size (suc count) (suc n) s l =
+    let e : size + n * size ≡ suc n * size = omega (arith, suc-mul n size) in
+    chunk-at size count n (drop size s) (omega arith) ∙ ap (take size) (drop-drop (n * size) size s ∙ ap (λ (k : ℕ). drop k s) e)
+
 -- ── a whole summary
+-- a sequence's card, in the cards of sequences alone
+pub card-front : (F : Format) (s : List ℕ) (n : ℕ) → n ≤ F.last → card_in (take (lines_at F) s) n ≡ card_in s n
+card-front F s n l =
+    let m = lines_at F - n * 32 in
+    let e : lines_at F ≡ n * 32 + m = omega arith in
+    ap (λ (k : ℕ). card_in (take k s) n) e ∙ ap (take 32) (drop-take (n * 32) m s) ∙ take-take 32 m (drop (n * 32) s) (omega arith)
+
 module _ (F : Format) (card line : ℕ → List ℕ) where
-  -- bytes of the right size whose parts are these are a summary of these
-  pub laid-is : (s : List ℕ) → length s ≡ lines_at F + 192 → ((n : ℕ) → n ≤ F.last → card_in s n ≡ card n) → ((k : ℕ) → k ≤ 47 → line_in F s k ≡ line k) → s ≡ laid F card line
-  laid-is s long cards lines =
-      let z : 0 * 32 ≡ 0 = refl in
-      let front = in_turns 32 card s (suc F.last) 0 (λ i a b. cards i (omega arith)) in
-      let back = in_turns 4 line (drop (lines_at F) s) 48 0 (λ i a b. lines i (omega arith)) in
-      let rest : length (drop (lines_at F) s) ≤ 192 = simp length-drop (omega arith) in
-      sym (take-append-drop (lines_at F) s)
-      ∙ (λ i. front i ++ drop (lines_at F) s)
-      ∙ ap (λ (r : List ℕ). turns 0 (suc F.last) (λ n left. card n) ++ r) (sym (take_all 192 (drop (lines_at F) s) rest) ∙ back)
+  -- these cards of sequences, and these of line lists behind them, are a summary
+  pub parts-are : (cards lines : List ℕ) → length cards ≡ lines_at F → length lines ≡ 192 → ((n : ℕ) → n ≤ F.last → card_in cards n ≡ card n)
+      → ((k : ℕ) → k ≤ 47 → take 4 (drop (k * 4) lines) ≡ line k) → cards ++ lines ≡ laid F card line
+  parts-are cards lines lc ll c l =
+      let front = in_turns 32 card cards (suc F.last) 0 (λ i a b. c i (omega arith)) in
+      let back = in_turns 4 line lines 48 0 (λ i a b. l i (omega arith)) in
+      ap₂ (λ (a b : List ℕ). a ++ b) (sym (take_all (lines_at F) cards (omega arith)) ∙ front) (sym (take_all 192 lines (omega arith)) ∙ back)
 
   module _ (cards : (n : ℕ) → length (card n) ≡ 32) (lines : (k : ℕ) → length (line k) ≡ 4) where
     pub laid-long : length (laid F card line) ≡ lines_at F + 192

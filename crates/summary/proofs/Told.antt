@@ -8,6 +8,7 @@ use mathlib.Core.List.{List, [], ◌∷◌}
 use lib.Dec.{ltb, eqb}
 use lib.ListN.{length}
 use borrow.Author.Tests.{ltb-false, lt-leb, le-ltb, eq-eqb, eqb-true}
+use Rattle.std.specs.Prelude.{None as Shut, Result, Ok, Err}
 use Rattle.octets.specs.Bytes.{byte_at}
 use Rattle.octets.specs.Rows.{first_code}
 use Rattle.octets.proofs.Bools.{by-test, choice, clash}
@@ -15,12 +16,10 @@ use Rattle.memory.specs.declared.Format.{Format}
 use Rattle.memory.specs.Memory.{fills, entry_of, tables_wrong}
 use Rattle.memory.proofs.Laws.{Fair, fair-of, sizes, entry-short}
 use Rattle.sequence.specs.declared.BadList.TheVariants.{WindowCount, Length, Checksum}
-use Rattle.sequence.specs.declared.Header.{Header}
-use Rattle.sequence.specs.declared.Header.TheVariants.{Repeats, Bad}
+use Rattle.sequence.specs.declared.Fault.{Fault}
 use Rattle.sequence.specs.Starts.{among}
 use Rattle.sequence.specs.Text.{header_of, header_rows}
 use Rattle.sequence.specs.Env.{Env, env_of, cards_of}
-use Rattle.runner.specs.declared.Opened.TheVariants.{Shut}
 use Rattle.survey.specs.declared.Closing.TheVariants.{Terminates, CallsOn}
 use Rattle.survey.specs.declared.Ending.TheVariants.{Returns}
 use Rattle.survey.specs.declared.Reason.{Reason}
@@ -79,16 +78,16 @@ below-rounds F q l (passes k x is p (CallsOn m)) s =
 below-rounds F q l (faults g reason) s = tt
 
 module _ (E : Env) (text : List ℕ) (oct : Octets text) (short : length text ≤ 256) where
-  below_by : (h : Header) → header_of text ≡ h → Small (2 ^ 54 - 1) (checked_by E text h)
+  below_by : (h : Result ℕ Fault) → header_of text ≡ h → Small (2 ^ 54 - 1) (checked_by E text h)
   unfolding header_of
-  below_by (Repeats q) e =
+  below_by (Ok q) e =
       let w = walk E.cards text (length text) 4 Shut in
       let l : length text * 2 ^ 37 ≤ 2 ^ 46 = omega arith in
       below-rounds E.format q (few q e) w (small-more l w (walk-small E.cards text oct (omega arith) (length text) 4 Shut))
     where
-      few : (q : ℕ) → header_of text ≡ Repeats q → q ≤ 255
+      few : (q : ℕ) → header_of text ≡ Ok q → q ≤ 255
       few q h = by-test (eqb (first_code (header_rows text)) 0) (λ t. let z : byte_at text 3 ≡ q = cc in omega (arith, oct 3)) (λ t. absurd (clash (cc)))
-  below_by (Bad f) e = tt
+  below_by (Err f) e = tt
 
   pub one_below : Small (2 ^ 54 - 1) (check_one E text)
   unfolding check_one

@@ -5,18 +5,18 @@ use native.Mathlib.Decide.{ℕ_discrete}
 use native.Mathlib.Omega.{arith}
 use mathlib.Core.Path.{◌≡◌, refl, sym, ap, ◌∙◌}
 use mathlib.Core.Bool.{Bool, true, false, cond, not, ◌&&◌, ◌||◌, or-true}
-use mathlib.Core.List.{List}
+use mathlib.Core.List.{List, ◌++◌}
 use mathlib.Core.Logic.{◌⊎◌, inl, inr}
 use lib.Dec.{leb, eqb}
-use lib.ListN.{length, take, drop}
+use lib.ListN.{length, take, drop, length-drop}
+use lib.Seq.{length-take-le}
 use borrow.Author.Tests.{not-false, eqb-true, le-leb, leb-true, leb-false}
 use Rattle.octets.proofs.Bools.{by-test, and_both, or-neither}
 use Rattle.memory.specs.declared.Format.{Format}
 use Rattle.memory.specs.declared.Range.TheVariants.{Sequences, LineLists}
-use Rattle.memory.specs.Memory.{fills, entry_of, written}
-use Rattle.memory.proofs.Laws.{Fair, written-length}
-use Rattle.sequence.specs.declared.ListCard.{ListCard}
-use Rattle.sequence.specs.LineList.{card_read}
+use Rattle.memory.specs.Memory.{fills, entry_of}
+use Rattle.memory.proofs.Laws.{Fair}
+use Rattle.sequence.specs.LineList.{ListCard, card_read}
 use Rattle.sequence.specs.Starts.{among}
 use Rattle.sequence.specs.Env.{cards_of, cards_kept}
 use Rattle.sequence.proofs.Cards.{card-back}
@@ -25,9 +25,8 @@ use Rattle.survey.specs.Report.{walked_of, reason_found}
 use Rattle.survey.proofs.Tested.{tested-same}
 use Rattle.summary.specs.Card.{bytes_of, card_of, used_in}
 use Rattle.summary.specs.Summary.{line_card, seq_card, lines_at, summary_wrong, card_in, summary_of, touches, uses_touched, line_after, card_after, renewed}
-use Rattle.summary.specs.Held.{Sized, Lines, Renews, RenewsUsers}
-use Rattle.summary.proofs.Parts.{laid-is}
-use Rattle.summary.proofs.Writing.{lines-there}
+use Rattle.summary.specs.Held.{Sized, names, Lines, Renews}
+use Rattle.summary.proofs.Parts.{card-front, parts-are}
 
 -- a summary that is not wrong has its format's size
 pub sized_of : (F : Format) (s : List ℕ) → summary_wrong F s ≡ false → Sized F s
@@ -36,24 +35,20 @@ sized_of F s e =
     let (a, b) = or-neither (not (fills F)) (not (eqb (length s) (lines_at F + 192))) e in
     record { fill = not-false (fills F) a; long = eqb-true (length s) (lines_at F + 192) (not-false _ b) }
 
--- the entries of a range of at most 128 bytes: the first's, and the last's, which is the same or the next
+-- the entries of a range: the first's, and the last's
 pub record Spans (F : Format) (at len : ℕ) : Type 0 where
   pub order : at / F.size ≤ (at + len - 1) / F.size
   pub low : (at + len - 1) / F.size ≤ F.last
-  pub near : (at + len - 1) / F.size ≤ at / F.size + 1
 
-pub spans : (F : Format) → Fair F → (at len : ℕ) → at + len ≤ 16384 → 0 < len → len ≤ 128 → Spans F at len
-spans F f at len fits some short =
+pub spans : (F : Format) → Fair F → (at len : ℕ) → at + len ≤ 16384 → 0 < len → Spans F at len
+spans F f at len fits some =
     let pos : 0 < F.size = omega (arith, f.room) in
     let x = at + len - 1 in
     let under : at / F.size * F.size ≤ at = div-mul-le_self at F.size in
-    let over : at < suc (at / F.size) * F.size = (div-lt_iff_lt-mul pos).0 (omega arith) in
     let whole : x < suc F.last * F.size = omega (arith, f.whole, mul_comm F.size (F.last + 1), suc-mul F.last F.size, (let e : F.last + 1 ≡ suc F.last = omega arith in ap (λ (k : ℕ). k * F.size) e)) in
-    let two : x < suc (suc (at / F.size)) * F.size = omega (arith, f.room, suc-mul (suc (at / F.size)) F.size) in
     record {
       order = (le-div_iff_mul-le pos).1 (omega arith);
       low = omega (arith, (div-lt_iff_lt-mul pos).1 whole);
-      near = omega (arith, (div-lt_iff_lt-mul pos).1 two);
     }
 
 -- ── a sequence's card comes from the cards of the line lists that its check tests
@@ -68,31 +63,50 @@ module _ (F : Format) (seqs : List ℕ) (cards cards' : ℕ → ListCard) (n : �
   card-same h = card-kept (λ k l a. h k l)
 
 -- ── made afresh
-module _ (F : Format) (seqs lists s kept kept' s' : List ℕ) (sized : Sized F s) (lk : length kept ≡ 192) (lines : Lines lists 0 48 kept kept')
-    (r : Renews F seqs kept' (λ n. true) (written s (lines_at F) kept') s') where
-  long' : length kept' ≡ 192
-  long' = lines.long ∙ lk
-
-  line_read : (k : ℕ) → k ≤ 47 → cards_kept kept' k ≡ cards_of lists k
+module _ (F : Format) (seqs lists cards cards' lines lines' : List ℕ) (lc : length cards ≡ lines_at F) (ll : length lines ≡ 192) (l : Lines lists 0 48 lines lines')
+    (r : Renews F seqs lines' (λ n. true) 0 (F.last + 1) cards cards') where
+  line_read : (k : ℕ) → k ≤ 47 → cards_kept lines' k ≡ cards_of lists k
   unfolding line_card
-  line_read k l = ap card_read (lines.done k (omega arith) (omega arith)) ∙ card-back (cards_of lists k)
+  line_read k h = ap card_read (l.done k (omega arith) (omega arith)) ∙ card-back (cards_of lists k)
 
-  pub made_so : s' ≡ summary_of F seqs lists
+  pub made_so : cards' ++ lines' ≡ summary_of F seqs lists
   unfolding summary_of
   made_so =
-      laid-is F (seq_card F seqs (cards_of lists)) (line_card lists) s' (r.long ∙ written-length s (lines_at F) kept' ∙ sized.long)
-      (λ n l. r.cards n l ∙ card-same F seqs (cards_of lists) (cards_kept kept') n line_read)
-      (λ k l. ap (λ (x : List ℕ). take 4 (drop (k * 4) x)) (r.lines ∙ lines-there F s kept' sized.long long') ∙ lines.done k (omega arith) (omega arith))
+      parts-are F (seq_card F seqs (cards_of lists)) (line_card lists) cards' lines' (r.long ∙ lc) (l.long ∙ ll)
+      (λ n h. r.done n (omega arith) (omega arith) ∙ card-same F seqs (cards_of lists) (cards_kept lines') n line_read) (λ k h. l.done k (omega arith) (omega arith))
 
--- ── after an uplink into the sequences
-module _ (F : Format) (seqs lists s s' : List ℕ) (at len : ℕ) (sized : Sized F s)
-    (r : Renews F seqs (drop (lines_at F) s) (λ n. touches F.size at len n) s s') where
-  pub touched-so : s' ≡ renewed F seqs lists s (Sequences at) len
+-- ── after an uplink: its range touches the parts from that of its first byte to that of its last, and no others
+module _ (size at len n : ℕ) where
+  inside : touches size at len n ≡ true → (at / size ≤ n) × (n < (at + len - 1) / size + 1)
+  inside t =
+      let (a, b) = and_both (leb (at / size) n) (leb n ((at + len - 1) / size)) t in
+      let d = leb-true n ((at + len - 1) / size) b in
+      (leb-true (at / size) n a, omega arith)
+
+  outside : touches size at len n ≡ false → (n < at / size) ⊎ ((at + len - 1) / size + 1 ≤ n)
+  outside t =
+      by-test (leb (at / size) n) (λ a. let d = leb-false n ((at + len - 1) / size) (rw a at t) in inr (omega arith)) (λ a. inl (omega (arith, leb-false (at / size) n a)))
+
+-- a summary in its two parts
+module _ (F : Format) (s : List ℕ) (sized : Sized F s) where
+  pub front-long : length (take (lines_at F) s) ≡ lines_at F
+  front-long = length-take-le (lines_at F) s (omega (arith, sized.long))
+
+  pub back-long : length (drop (lines_at F) s) ≡ 192
+  back-long = length-drop (lines_at F) s ∙ (let e : length s - lines_at F ≡ 192 = omega (arith, sized.long) in e)
+
+-- into the sequences
+module _ (F : Format) (seqs lists s cards' : List ℕ) (at len : ℕ) (sized : Sized F s)
+    (r : Renews F seqs (drop (lines_at F) s) (λ n. true) (at / F.size) ((at + len - 1) / F.size + 1) (take (lines_at F) s) cards') where
+  pub touched-so : cards' ++ drop (lines_at F) s ≡ renewed F seqs lists s (Sequences at) len
   unfolding renewed
   touched-so =
-      laid-is F (card_after F seqs lists s (Sequences at) len) (line_after F lists s (Sequences at) len) s' (r.long ∙ sized.long) (λ n l. r.cards n l) (λ k l. ap (λ (x : List ℕ). take 4 (drop (k * 4) x)) r.lines)
+      parts-are F (card_after F seqs lists s (Sequences at) len) (line_after F lists s (Sequences at) len) cards' (drop (lines_at F) s) (r.long ∙ front-long F s sized) (back-long F s sized)
+      (λ n l.
+      by-test (touches F.size at len n) (λ t. let (a, b) = inside F.size at len n t in rw t (r.done n a b)) (λ t. rw t (r.rest n (outside F.size at len n t) ∙ card-front F s n l)))
+      (λ k l. refl)
 
--- ── after one into the line lists
+-- into the line lists
 -- one of the lists from the first to the last touched is used
 module _ (at len used : ℕ) where
   pub some-touched : (n k : ℕ) → k < n → touches 164 at len k ≡ true → has_list used k ≡ true → uses_touched at len used n ≡ true
@@ -129,23 +143,21 @@ module _ (at len used : ℕ) where
             by (yes e) x y = rw e f
             by (no d) x y = let e : k ≡ last = omega arith in rw e l
 
-module _ (F : Format) (seqs lists s s' : List ℕ) (at len first last : ℕ) (sized : Sized F s)
-    (ef : first ≡ at / 164) (el : last ≡ (at + len - 1) / 164) (le : first ≤ last) (near : last ≤ first + 1) (few : last ≤ 47) (r : RenewsUsers F seqs lists first last s s') where
-  line-so : (k : ℕ) → k ≤ 47 → take 4 (drop (k * 4) r.kept) ≡ line_after F lists s (LineLists at) len k
-  line-so k l =
-      by-test (touches 164 at len k)
-      (λ t. let (a, b) = and_both (leb (at / 164) k) (leb k ((at + len - 1) / 164)) t in rw t (r.lines.done k (omega (arith, leb-true (at / 164) k a)) (omega (arith, leb-true k ((at + len - 1) / 164) b))))
-      (λ t. rw t (r.lines.rest k (outside t)))
-    where
-      outside : touches 164 at len k ≡ false → (k < first) ⊎ (last + 1 ≤ k)
-      outside t = by-test (leb (at / 164) k) (λ a. inr (omega (arith, leb-false k ((at + len - 1) / 164) (rw a at t)))) (λ a. inl (omega (arith, leb-false (at / 164) k a)))
+module _ (F : Format) (seqs lists s cards' lines' : List ℕ) (at len : ℕ) (sized : Sized F s)
+    (le : at / 164 ≤ (at + len - 1) / 164) (near : (at + len - 1) / 164 ≤ at / 164 + 1) (few : (at + len - 1) / 164 ≤ 47)
+    (l : Lines lists (at / 164) ((at + len - 1) / 164 + 1) (drop (lines_at F) s) lines')
+    (r : Renews F seqs lines' (λ n. names (at / 164) ((at + len - 1) / 164) (card_in (take (lines_at F) s) n)) 0 (F.last + 1) (take (lines_at F) s) cards') where
+  line-so : (k : ℕ) → take 4 (drop (k * 4) lines') ≡ line_after F lists s (LineLists at) len k
+  line-so k =
+      by-test (touches 164 at len k) (λ t. let (a, b) = inside 164 at len k t in rw t (l.done k a b)) (λ t. rw t (l.rest k (outside 164 at len k t)))
 
-  pub users-so : s' ≡ renewed F seqs lists s (LineLists at) len
+  pub users-so : cards' ++ lines' ≡ renewed F seqs lists s (LineLists at) len
   unfolding renewed
   users-so =
-      laid-is F (card_after F seqs lists s (LineLists at) len) (line_after F lists s (LineLists at) len) s' (r.long ∙ sized.long)
-      (λ n l.
-      r.cards n l
-      ∙ ap (λ (t : Bool). cond t (seq_card F seqs (cards_kept r.kept) n) (card_in s n)) (uses-two at len (used_in (card_in s n)) first last ef el le near few)
-      ∙ ap (λ (c : List ℕ). cond (uses_touched at len (used_in (card_in s n)) 48) c (card_in s n)) (card-same F seqs _ (cards_kept r.kept) n (λ k b. ap card_read (line-so k b))))
-      (λ k l. ap (λ (x : List ℕ). take 4 (drop (k * 4) x)) r.there ∙ line-so k l)
+      parts-are F (card_after F seqs lists s (LineLists at) len) (line_after F lists s (LineLists at) len) cards' lines' (r.long ∙ front-long F s sized) (l.long ∙ back-long F s sized)
+      (λ n h.
+      r.done n (omega arith) (omega arith)
+      ∙ ap (λ (x : List ℕ). cond (names (at / 164) ((at + len - 1) / 164) x) (seq_card F seqs (cards_kept lines') n) x) (card-front F s n h)
+      ∙ ap (λ (t : Bool). cond t (seq_card F seqs (cards_kept lines') n) (card_in s n)) (uses-two at len (used_in (card_in s n)) (at / 164) ((at + len - 1) / 164) refl refl le near few)
+      ∙ ap (λ (c : List ℕ). cond (uses_touched at len (used_in (card_in s n)) 48) c (card_in s n)) (card-same F seqs _ (cards_kept lines') n (λ k b. ap card_read (line-so k))))
+      (λ k h. line-so k)

@@ -1,21 +1,20 @@
 -- For the proofs of the code, what it holds on its way.
-use Rattle.std.specs.Prelude.{ℕ, ◌+◌, ◌*◌, ◌≤◌, ◌<◌, ◌≡◌, Bool, true, cond, ◌||◌, List, ◌⊎◌, length, take, drop}
+use Rattle.std.specs.Prelude.{ℕ, ◌+◌, ◌*◌, ◌≤◌, ◌<◌, ◌≡◌, Bool, true, cond, ◌&&◌, ◌||◌, List, ◌⊎◌, leb, eqb, length, take, drop, Option, Some, None, Result, Ok, Err}
+use Rattle.std.specs.Fn.{Shared, FnReturnsAt}
+use denote.Ref.{Bor}
+use Rattle.octets.specs.Bytes.{byte_at}
 use Rattle.memory.specs.declared.Format.{Format}
 use Rattle.memory.specs.Memory.{fills}
+use Rattle.sequence.specs.declared.Fault.{Fault}
 use Rattle.sequence.specs.Env.{cards_kept}
-use Rattle.survey.specs.declared.Chain.{Chain}
-use Rattle.survey.specs.declared.Ending.{Ending}
-use Rattle.survey.specs.declared.Report.{Report}
-use Rattle.survey.specs.Walk.{Finding, passes, faults}
-use Rattle.survey.specs.Chain.{total}
+use Rattle.survey.specs.declared.Closed.{Closed}
+use Rattle.survey.specs.declared.Closing.{Closing}
 use Rattle.survey.specs.declared.Closing.TheVariants.{Terminates, CallsOn}
-use Rattle.summary.specs.declared.Named.{Named}
-use Rattle.summary.specs.declared.Named.TheVariants.{All, Using}
-use Rattle.summary.specs.declared.Said.{Said}
-use Rattle.summary.specs.declared.Said.TheVariants.{Wrong, Faults, Ends, Calls}
+use Rattle.survey.specs.declared.Reason.{Reason}
+use Rattle.survey.specs.Walk.{Finding, passes, faults}
 use Rattle.survey.specs.Tested.{has_list}
 use Rattle.summary.specs.Card.{used_in}
-use Rattle.summary.specs.Summary.{line_card, seq_card, lines_at, card_in}
+use Rattle.summary.specs.Summary.{line_card, seq_card, lines_at}
 use Rattle.summary.specs.Chain.{card_wrong, said_by}
 
 -- a summary of a format's size
@@ -23,47 +22,37 @@ pub record Sized (F : Format) (s : List ℕ) : Type 0 where
   pub fill : fills F ≡ true
   pub long : length s ≡ lines_at F + 192
 
--- which sequences' cards are worked out again: all, or those that use one of two line lists
-abbrev pub names : Named → List ℕ → Bool
-names All card = true
-names (Using first last) card = has_list (used_in card) first || has_list (used_in card) last
+-- whether a card uses one of two line lists
+abbrev pub names : ℕ → ℕ → List ℕ → Bool
+names first last card = has_list (used_in card) first || has_list (used_in card) last
 
--- the second summary has these cards of sequences, worked out from what is kept of the line lists, and the others as they were
-pub record Renews (F : Format) (seqs kept : List ℕ) (test : ℕ → Bool) (s s' : List ℕ) : Type 0 where
+-- a closure answers this test of a card
+pub record Tests {C : Type 0} (g : Shared C (Bor (List ℕ) × Unit {0}) Bool) (f : C) (test : List ℕ → Bool) : Type 0 where
+  pub tells : (card : List ℕ) (r : Bool) → length card ≡ 32 → FnReturnsAt g f card r → r ≡ test card
+
+-- parts of one size: those from one up to another that a test names are these, the others as they were
+pub record Renewed (size : ℕ) (part : ℕ → List ℕ) (test : ℕ → Bool) (first past : ℕ) (s s' : List ℕ) : Type 0 where
   pub long : length s' ≡ length s
-  pub cards : (n : ℕ) → n ≤ F.last → card_in s' n ≡ cond (test n) (seq_card F seqs (cards_kept kept) n) (card_in s n)
-  pub lines : drop (lines_at F) s' ≡ drop (lines_at F) s
+  pub done : (k : ℕ) → first ≤ k → k < past → take size (drop (k * size) s') ≡ cond (test k) (part k) (take size (drop (k * size) s))
+  pub rest : (k : ℕ) → (k < first) ⊎ (past ≤ k) → take size (drop (k * size) s') ≡ take size (drop (k * size) s)
 
 -- the cards of the line lists from one up to another are those of a table, the others as they were
-pub record Lines (lists : List ℕ) (first past : ℕ) (kept kept' : List ℕ) : Type 0 where
-  pub long : length kept' ≡ length kept
-  pub done : (k : ℕ) → first ≤ k → k < past → take 4 (drop (k * 4) kept') ≡ line_card lists k
-  pub rest : (k : ℕ) → (k < first) ⊎ (past ≤ k) → take 4 (drop (k * 4) kept') ≡ take 4 (drop (k * 4) kept)
+abbrev pub Lines : List ℕ → ℕ → ℕ → List ℕ → List ℕ → Type 0
+Lines lists first past lines lines' = Renewed 4 (line_card lists) (λ k. true) first past lines lines'
 
--- the line lists' cards first, then those of the sequences that use one of two
-pub record RenewsUsers (F : Format) (seqs lists : List ℕ) (first last : ℕ) (s s' : List ℕ) : Type 0 where
-  pub kept : List ℕ
-  pub lines : Lines lists first (last + 1) (drop (lines_at F) s) kept
-  pub long : length s' ≡ length s
-  pub cards : (n : ℕ) → n ≤ F.last → card_in s' n ≡ cond (names (Using first last) (card_in s n)) (seq_card F seqs (cards_kept kept) n) (card_in s n)
-  pub there : drop (lines_at F) s' ≡ kept
+-- the cards of the sequences from one up to another that a test names are worked out from what is kept of the line lists, the others are as they were
+abbrev pub Renews : Format → List ℕ → List ℕ → (ℕ → Bool) → ℕ → ℕ → List ℕ → List ℕ → Type 0
+Renews F seqs lines test first past cards cards' = Renewed 32 (seq_card F seqs (cards_kept lines)) test first past cards cards'
 
--- what is reported of a chain and its ending
-abbrev pub reported_as : Chain → Ending → Report
-reported_as chain ending =
-    record {
-      ending = ending;
-      listed = chain.listed;
-      count = chain.count;
-      steps = total ending chain.steps 0;
-      exposures = total ending chain.exposures 0;
-    }
+-- how the sequence of a card closes, where some tables give such a card
+abbrev pub closing_said : Format → List ℕ → Option Closing
+closing_said F c =
+    cond (eqb (byte_at c 3) 1) (Some Terminates) (cond (eqb (byte_at c 3) 2 && leb (byte_at c 4) F.last) (Some (CallsOn (byte_at c 4))) None)
 
 -- what a card says, as the code holds it
-abbrev pub said_in : Finding → Said
-said_in (passes k x is p Terminates) = Ends k x
-said_in (passes k x is p (CallsOn m)) = Calls m k x
-said_in (faults f reason) = Faults f reason
+abbrev pub said_in : Finding → Result Closed (Fault × Reason)
+said_in (passes k x is p c) = Ok (record { place = p; closing = c; steps = k; exposures = x })
+said_in (faults f reason) = Err (f, reason)
 
-abbrev pub said_of : Format → List ℕ → Said
-said_of F c = cond (card_wrong F c) Wrong (said_in (said_by c))
+abbrev pub said_of : Format → List ℕ → Option (Result Closed (Fault × Reason))
+said_of F c = cond (card_wrong F c) None (Some (said_in (said_by c)))

@@ -5,8 +5,7 @@ use Rattle.memory.specs.declared.Format.{Format}
 use Rattle.memory.specs.declared.Range.{Range}
 use Rattle.memory.specs.declared.Range.TheVariants.{Sequences, LineLists, Wrong}
 use Rattle.memory.specs.Memory.{fills, entry_of, tables_wrong, range_at, is_wrong}
-use Rattle.sequence.specs.declared.ListCard.{ListCard}
-use Rattle.sequence.specs.LineList.{card_bytes, card_read}
+use Rattle.sequence.specs.LineList.{ListCard, card_bytes, card_read}
 use Rattle.sequence.specs.Env.{cards_of}
 use Rattle.survey.specs.Turns.{turns}
 use Rattle.survey.specs.Tested.{has_list}

@@ -2,21 +2,21 @@
 // an uplink, and the chain check reads it in place of the tables.
 #![tactic(auto)]
 
-ghost use Rattle.std.specs.Prelude.{◌≡◌, ℕ, suc, ◌+◌, ◌*◌, ◌-◌, ◌/◌, ◌≤◌, ◌<◌, ◌^◌, true, cond, ◌&&◌, ◌||◌, [], leb, length, drop};
-ghost use Rattle.octets.specs.Bytes.{number_at};
-ghost use Rattle.memory.specs.Memory.{format_of, fills, tables_wrong, written};
+ghost use Rattle.std.specs.Prelude.{◌≡◌, ℕ, suc, ◌+◌, ◌*◌, ◌-◌, ◌/◌, ◌≤◌, ◌<◌, ◌^◌, Bool, true, cond, ◌&&◌, ◌||◌, List, [], length};
+ghost use Rattle.memory.specs.Memory.{format_of, fills};
 ghost use Rattle.sequence.specs.Env.{cards_kept};
 ghost use Rattle.survey.specs.declared.Ending.TheVariants.{Unlisted};
+ghost use Rattle.survey.specs.Tested.{has_list};
 ghost use Rattle.survey.specs.Chain.{told, chain_of};
 ghost use Rattle.survey.specs.Report.{report_of};
-ghost use Rattle.summary.specs.Card.{passing, head_of, steps_in, exposures_in, laid_out, bytes_of};
-ghost use Rattle.summary.specs.Summary.{line_card, seq_card, lines_at, summary_wrong, card_in, make_code, made, update_code, updated};
+ghost use Rattle.summary.specs.Card.{passing, laid_out, bytes_of, used_in};
+ghost use Rattle.summary.specs.Summary.{seq_card, lines_at, summary_wrong, card_in, make_code, made, update_code, updated};
 ghost use Rattle.summary.specs.Chain.{reason_read, sayings, unless_wrong, check_cards};
-ghost use Rattle.summary.specs.Held.{Sized, Lines, names, Renews, RenewsUsers, said_of, reported_as};
+ghost use Rattle.summary.specs.Held.{Sized, Tests, Lines, Renews, closing_said, said_of};
 
 use memory::{Format, Range};
 use sequence::{BadList, Fault, Lent};
-use survey::{Alone, Chain, Closing, Ending, Reason, Report, Walked};
+use survey::{Alone, Chain, Closed, Closing, Ending, Reason, Report};
 
 // The bytes of a sequence's card, those of all line lists' cards, and the most that one uplink brings.
 pub const CARD: usize = 32;
@@ -28,15 +28,9 @@ const UPLINK: u32 = 128;
 // What no sequence's steps or exposures come to.
 const TOO_MANY: u64 = 0x40000000000000;
 
-// The sequences whose cards are worked out again: all, or those that use one of two line lists.
-#[derive(Clone, Copy)]
-enum Named {
-    All,
-    Using(u8, u8),
-}
-
 // The head of a sequence's card: whether it has a fault, the fault's place and code; how it closes, and the sequence called; and the reason of a 7, by number
 // and value.
+// Stays: these are the card's bytes, which the definition `laid_out` has and C keeps.
 #[derive(Clone, Copy)]
 struct Head {
     fault: u8,
@@ -48,14 +42,8 @@ struct Head {
     value: u8,
 }
 
-// What a card says of its sequence: that no tables give it; a fault and its reason; or how it closes, with its steps and exposures.
-#[derive(Clone, Copy)]
-enum Said {
-    Wrong,
-    Faults(Fault, Reason),
-    Ends(u64, u64),
-    Calls(u8, u64, u64),
-}
+// What a card says of its sequence: how it closes, with its steps and exposures; or its fault, and the fault's reason.
+type Said = Result<Closed, (Fault, Reason)>;
 
 // The head of a card of a sequence that passes.
 fn passing(closing: u8, target: u8) -> Head
@@ -80,79 +68,19 @@ pub fn lines_at(format: Format) -> usize
 }
 
 // Whether there is no such kind of tables, or a summary has a wrong size.
+#[tactic(auto, using(memory::proofs::Laws::kinds), unfolding(crate::specs::Summary::summary_wrong))]
 fn summary_wrong(kind: u32, summary: &[u8]) -> bool
     ensures { result ≡ summary_wrong (format_of kind) summary.now }
 {
-    octets::either(
-        memory::BENCH < kind,
-        summary.len() != lines_at(Format::of(kind)) + LINES,
-    )
+    memory::BENCH < kind || summary.len() != lines_at(Format::of(kind)) + LINES
 }
 
-// The head of a sequence's card: how it ends, and where it goes or why it fails.
-fn head_of(found: Walked, reason: Reason) -> Head
-    ensures { result ≡ head_of found reason }
-{
-    match found {
-        Walked::Faulty(fault) => {
-            let why = reason.shown();
-            Head {
-                fault: 1,
-                place: fault.place,
-                code: fault.code,
-                closing: 0,
-                target: 0,
-                number: why.number,
-                value: why.value,
-            }
-        }
-        Walked::Closed {
-            place: _,
-            closing,
-            steps: _,
-            exposures: _,
-        } => match closing {
-            Closing::Terminates => passing(1, 0),
-            Closing::CallsOn(target) => passing(2, target),
-        },
-    }
-}
-
-// The steps of what was found; a faulty card has none.
-fn steps_of(found: Walked) -> u64
-    ensures { result ≡ steps_in found }
-{
-    match found {
-        Walked::Faulty(_) => 0,
-        Walked::Closed {
-            place: _,
-            closing: _,
-            steps,
-            exposures: _,
-        } => steps,
-    }
-}
-
-// The exposures of what was found; a faulty card has none.
-fn exposures_of(found: Walked) -> u64
-    ensures { result ≡ exposures_in found }
-{
-    match found {
-        Walked::Faulty(_) => 0,
-        Walked::Closed {
-            place: _,
-            closing: _,
-            steps: _,
-            exposures,
-        } => exposures,
-    }
-}
-
-// A sequence's card, byte by byte.
+// A sequence's card: its head, then its numbers, high byte first.
 fn lay(head: Head, steps: u64, exposures: u64, tested: u64) -> [u8; CARD]
     ensures { result ≡ laid_out head steps exposures tested }
 {
-    [
+    let mut card = [0u8; CARD];
+    card[..7].copy_from_slice(&[
         head.fault,
         head.place,
         head.code,
@@ -160,169 +88,130 @@ fn lay(head: Head, steps: u64, exposures: u64, tested: u64) -> [u8; CARD]
         head.target,
         head.number,
         head.value,
-        0,
-        (steps / 72057594037927936 % 256) as u8,
-        (steps / 281474976710656 % 256) as u8,
-        (steps / 1099511627776 % 256) as u8,
-        (steps / 4294967296 % 256) as u8,
-        (steps / 16777216 % 256) as u8,
-        (steps / 65536 % 256) as u8,
-        (steps / 256 % 256) as u8,
-        (steps % 256) as u8,
-        (exposures / 72057594037927936 % 256) as u8,
-        (exposures / 281474976710656 % 256) as u8,
-        (exposures / 1099511627776 % 256) as u8,
-        (exposures / 4294967296 % 256) as u8,
-        (exposures / 16777216 % 256) as u8,
-        (exposures / 65536 % 256) as u8,
-        (exposures / 256 % 256) as u8,
-        (exposures % 256) as u8,
-        (tested / 1099511627776 % 256) as u8,
-        (tested / 4294967296 % 256) as u8,
-        (tested / 16777216 % 256) as u8,
-        (tested / 65536 % 256) as u8,
-        (tested / 256 % 256) as u8,
-        (tested % 256) as u8,
-        0,
-        0,
-    ]
+    ]);
+    card[8..16].copy_from_slice(&octets::eight(steps));
+    card[16..24].copy_from_slice(&octets::eight(exposures));
+    card[24..30].copy_from_slice(&octets::eight(tested)[2..]);
+    card
 }
 
-// The card of what is known of a sequence.
+// The card of what is known of a sequence: how it ends and where it goes, with its totals; or why it fails, and no totals.
 fn card_of(alone: Alone) -> [u8; CARD]
     ensures { result ≡ bytes_of alone }
 {
-    let found = alone.found;
-    let reason = alone.reason;
-    lay(
-        head_of(found, reason),
-        steps_of(found),
-        exposures_of(found),
-        alone.tested,
-    )
+    match alone.found {
+        Ok(closed) => {
+            let head = match closed.closing {
+                Closing::Terminates => passing(1, 0),
+                Closing::CallsOn(target) => passing(2, target),
+            };
+            lay(head, closed.steps, closed.exposures, alone.tested)
+        }
+        Err(fault) => {
+            let why = alone.reason.shown();
+            let head = Head {
+                fault: 1,
+                place: fault.place,
+                code: fault.code,
+                closing: 0,
+                target: 0,
+                number: why.number,
+                value: why.value,
+            };
+            lay(head, 0, 0, alone.tested)
+        }
+    }
 }
 
-// Works out sequence n's card, from the kept cards of the line lists.
-fn put_card(kind: u32, seqs: &[u8], kept: &[u8], summary: &mut [u8], n: u8)
+// Sequence n's card, worked out from the table and from the cards of the line lists.
+fn seq_card(kind: u32, seqs: &[u8], lines: &[u8], n: u8) -> [u8; CARD]
     requires { fills (format_of kind) ≡ true }
-    ensures { summary.new ≡ written summary.old (n * 32) (seq_card (format_of kind) seqs.now (cards_kept kept.now) n) }
+    ensures { result ≡ seq_card (format_of kind) seqs.now (cards_kept lines.now) n }
 {
     let text = memory::entry(Format::of(kind), seqs, n);
-    let card = card_of(survey::taken_alone(kind, text, Lent::Cards, kept));
-    memory::write(summary, n as usize * CARD, &card);
+    card_of(survey::taken_alone(kind, text, Lent::Cards, lines))
 }
 
 // Works out the cards of the line lists from one to another.
-fn renew_lines(lists: &[u8], kept: &mut [u8], first: u8, last: u8)
-    requires { (first ≤ last) × (last ≤ 47) × (length kept.old ≡ 192) }
-    ensures { Lines lists.now first (last + 1) kept.old kept.new }
+fn renew_lines(lists: &[u8], lines: &mut [u8], first: u8, last: u8)
+    requires { (first ≤ last) × (last ≤ 47) × (length lines.old ≡ 192) }
+    ensures { Lines lists.now first (last + 1) lines.old lines.new }
 {
-    let mut k = first;
-    while k <= last {
-        let card = sequence::list_card(memory::list(lists, k), true).bytes();
-        memory::write(kept, k as usize * sequence::CARD, &card);
-        k += 1;
+    for k in first..=last {
+        let card = sequence::card_bytes(sequence::list_card(memory::list(lists, k), true));
+        memory::write(lines, k as usize * sequence::CARD, &card);
     }
 }
 
-// The number in so many bytes from a place on, high byte first.
-fn number(s: &[u8], at: usize, width: usize) -> u64
-    requires { (width ≤ 8) × (at + width ≤ length s.now) }
-    ensures { result ≡ number_at s.now at width }
+// Sequence n's card among the cards of sequences.
+fn card_at(cards: &[u8], n: u8) -> &[u8; CARD]
+    requires { (n + 1) * 32 ≤ length cards.now }
+    ensures { result.now ≡ card_in cards.now n }
 {
-    let mut n: u64 = 0;
-    let mut i = 0;
-    while i < width {
-        n = n * 256 + s[at + i] as u64;
-        i += 1;
-    }
-    n
+    let (cards, _) = cards.as_chunks::<CARD>();
+    &cards[n as usize]
 }
 
-impl Named {
-    // Whether a sequence with this card is among them.
-    fn has(self, card: &[u8]) -> bool
-        requires { length card.now ≡ 32 }
-        ensures { result ≡ names self card.now }
-    {
-        match self {
-            Named::All => true,
-            Named::Using(first, last) => {
-                let used = number(card, 24, 6);
-                octets::either(survey::has_list(used, first), survey::has_list(used, last))
-            }
+// Works out, from the cards of the line lists, those cards of the sequences from one to another that a test names.
+fn renew_cards<F: Fn(&[u8; CARD]) -> bool>(
+    kind: u32,
+    seqs: &[u8],
+    lines: &[u8],
+    cards: &mut [u8],
+    first: u8,
+    last: u8,
+    named: F,
+)
+    requires callable { F.IsAlwaysCallable named }
+    requires filled { fills (format_of kind) ≡ true }
+    requires sized { length cards.old ≡ lines_at (format_of kind) }
+    requires among { (first ≤ last) × (last ≤ (format_of kind).last) }
+    ensures { (test : List ℕ → Bool) → Tests F.Fn named test → Renews (format_of kind) seqs.now lines.now (λ n. test (card_in cards.old n)) first (last + 1) cards.old cards.new }
+{
+    for n in first..=last {
+        if named(card_at(cards, n)) {
+            let card = seq_card(kind, seqs, lines, n);
+            memory::write(cards, n as usize * CARD, &card);
         }
     }
 }
 
-// Works out the cards of these sequences, from the kept cards of the line lists.
-fn renew_cards(kind: u32, seqs: &[u8], kept: &[u8], summary: &mut [u8], named: Named)
-    requires { Sized (format_of kind) summary.old }
-    ensures { Renews (format_of kind) seqs.now kept.now (λ n. names named (card_in summary.old n)) summary.old summary.new }
+// The line lists that a card uses, a bit for each.
+fn used_in(card: &[u8; CARD]) -> u64
+    ensures { result ≡ used_in card.now }
 {
-    let last = Format::of(kind).last;
-    let mut n: u8 = 0;
-    while n <= last {
-        if named.has(octets::part(summary, n as usize * CARD, CARD)) {
-            put_card(kind, seqs, kept, summary, n);
-        }
-        n += 1;
-    }
-}
-
-// The cards of the line lists as a summary has them.
-fn kept_in(format: Format, summary: &[u8]) -> [u8; LINES]
-    requires { Sized format summary.now }
-    ensures { result ≡ drop (lines_at format) summary.now }
-{
-    let mut kept = [0u8; LINES];
-    memory::write(&mut kept, 0, octets::part(summary, lines_at(format), LINES));
-    kept
+    octets::number(&card[24..30])
 }
 
 // The whole summary, worked out from the tables: 16 for tables or a summary of a wrong size or of no kind, with nothing written.
+// Stays: the codes are numbers, since `keel_cards` hands them to C, and MakeIs and UpdateIs speak of them; and a kind and its two tables go side by
+// side, since the types of this function and of `update` may not change.
+#[tactic(auto, using(crate::proofs::Whole::sized_of), unfolding(crate::specs::Summary::make_code, crate::specs::Summary::made))]
 pub fn make(kind: u32, seqs: &[u8], lists: &[u8], summary: &mut [u8]) -> u8
     ensures value { result ≡ make_code (format_of kind) seqs.now lists.now summary.old }
     ensures summary_after { summary.new ≡ made (format_of kind) seqs.now lists.now summary.old }
 {
-    if octets::either(
-        memory::tables_wrong(kind, seqs, lists),
-        summary_wrong(kind, summary),
-    ) {
+    if memory::tables_wrong(kind, seqs, lists) || summary_wrong(kind, summary) {
         return 16;
     }
-    let mut kept = [0u8; LINES];
-    renew_lines(lists, &mut kept, 0, memory::LAST_LINE_LIST);
-    memory::write(summary, lines_at(Format::of(kind)), &kept);
-    renew_cards(kind, seqs, &kept, summary, Named::All);
+    let format = Format::of(kind);
+    let (cards, lines) = summary.split_at_mut(lines_at(format));
+    renew_lines(lists, lines, 0, memory::LAST_LINE_LIST);
+    renew_cards(kind, seqs, lines, cards, 0, format.last, |_| true);
     0
 }
 
-// Works out again the cards of the entries from one to another, which is the same or the next.
-fn renew_touched(kind: u32, seqs: &[u8], summary: &mut [u8], first: u8, last: u8)
-    requires { Sized (format_of kind) summary.old × (first ≤ last) × (last ≤ (format_of kind).last) × (last ≤ first + 1) }
-    ensures { Renews (format_of kind) seqs.now (drop (lines_at (format_of kind)) summary.old) (λ n. leb first n && leb n last) summary.old summary.new }
+// The first and the last part of this size in which bytes from an offset on lie.
+fn touched(size: usize, at: usize, len: usize) -> (u8, u8)
+    requires { (0 < size) × (0 < len) × (at + len ≤ 16384) × (at + len ≤ 256 * size) }
+    ensures { (result.0 ≡ at / size) × (result.1 ≡ (at + len - 1) / size) }
 {
-    let kept = kept_in(Format::of(kind), summary);
-    put_card(kind, seqs, &kept, summary, first);
-    if first != last {
-        put_card(kind, seqs, &kept, summary, last);
-    }
-}
-
-// Works out again the cards of the line lists from one to another, which is the same or the next, and then of the sequences that use one of them.
-fn renew_users(kind: u32, seqs: &[u8], lists: &[u8], summary: &mut [u8], first: u8, last: u8)
-    requires { Sized (format_of kind) summary.old × (first ≤ last) × (last ≤ 47) }
-    ensures { RenewsUsers (format_of kind) seqs.now lists.now first last summary.old summary.new }
-{
-    let mut kept = kept_in(Format::of(kind), summary);
-    renew_lines(lists, &mut kept, first, last);
-    memory::write(summary, lines_at(Format::of(kind)), &kept);
-    renew_cards(kind, seqs, &kept, summary, Named::Using(first, last));
+    ((at / size) as u8, ((at + len - 1) / size) as u8)
 }
 
 // The summary after an obeyed uplink of so many bytes from an address on: 16 as for `make`, then 7 for a range that no uplink could have, with nothing
 // written. The cards of touched entries are worked out again, and those of the sequences that use a touched line list.
+#[tactic(auto, using(crate::proofs::Whole::sized_of), unfolding(crate::specs::Summary::update_code, crate::specs::Summary::updated))]
 pub fn update(
     kind: u32,
     seqs: &[u8],
@@ -334,29 +223,29 @@ pub fn update(
     ensures value { result ≡ update_code (format_of kind) seqs.now lists.now summary.old address count }
     ensures summary_after { summary.new ≡ updated (format_of kind) seqs.now lists.now summary.old address count }
 {
-    if octets::either(
-        memory::tables_wrong(kind, seqs, lists),
-        summary_wrong(kind, summary),
-    ) {
+    if memory::tables_wrong(kind, seqs, lists) || summary_wrong(kind, summary) {
         return 16;
     }
     if UPLINK < count {
         return 7;
     }
+    let format = Format::of(kind);
     let len = count as usize;
+    let (cards, lines) = summary.split_at_mut(lines_at(format));
     match memory::range_at(address, len) {
         Range::Wrong => 7,
         Range::Sequences(at) => {
-            let size = Format::of(kind).size as usize;
-            let first = (at / size) as u8;
-            let last = ((at + len - 1) / size) as u8;
-            renew_touched(kind, seqs, summary, first, last);
+            let (first, last) = touched(format.size as usize, at, len);
+            renew_cards(kind, seqs, lines, cards, first, last, |_| true);
             0
         }
         Range::LineLists(at) => {
-            let first = (at / memory::LINE_LIST_SIZE) as u8;
-            let last = ((at + len - 1) / memory::LINE_LIST_SIZE) as u8;
-            renew_users(kind, seqs, lists, summary, first, last);
+            let (first, last) = touched(memory::LINE_LIST_SIZE, at, len);
+            renew_lines(lists, lines, first, last);
+            renew_cards(kind, seqs, lines, cards, 0, format.last, |card| {
+                let used = used_in(card);
+                survey::has_list(used, first) || survey::has_list(used, last)
+            });
             0
         }
     }
@@ -366,125 +255,102 @@ pub fn update(
 fn reason_from(number: u8, value: u8) -> Reason
     ensures { result ≡ reason_read number value }
 {
-    if number == 0 {
-        return Reason::None;
+    match number {
+        0 => Reason::None,
+        1 => Reason::OfList(BadList::WindowCount),
+        2 => Reason::OfList(BadList::Length),
+        3 => Reason::OfList(BadList::Checksum(value)),
+        _ => Reason::Mark,
     }
-    if number == 1 {
-        return Reason::OfList(BadList::WindowCount);
-    }
-    if number == 2 {
-        return Reason::OfList(BadList::Length);
-    }
-    if number == 3 {
-        return Reason::OfList(BadList::Checksum(value));
-    }
-    Reason::Mark
 }
 
-// What a card says of its sequence.
-fn said_by(format: Format, card: &[u8]) -> Said
-    requires { length card.now ≡ 32 }
+// How the sequence of a card that passes closes; a card of another closing, or of a call past the last sequence, no tables give.
+fn closing_in(format: Format, card: &[u8; CARD]) -> Option<Closing>
+    ensures { result ≡ closing_said format card.now }
+{
+    match card[3] {
+        1 => Some(Closing::Terminates),
+        2 if card[4] <= format.last => Some(Closing::CallsOn(card[4])),
+        _ => None,
+    }
+}
+
+// What a card says of its sequence, where some tables give such a card.
+#[tactic(auto, unfolding(crate::specs::Chain::card_wrong, crate::specs::Chain::said_by))]
+fn said_by(format: Format, card: &[u8; CARD]) -> Option<Said>
     ensures { result ≡ said_of format card.now }
 {
-    if card[0] == 1 {
-        let fault = Fault {
-            code: card[2],
-            place: card[1],
-        };
-        return Said::Faults(fault, reason_from(card[5], card[6]));
-    }
-    if card[0] != 0 {
-        return Said::Wrong;
-    }
-    let steps = number(card, 8, 8);
-    let exposures = number(card, 16, 8);
-    if octets::either(TOO_MANY <= steps, TOO_MANY <= exposures) {
-        return Said::Wrong;
-    }
-    if card[3] == 1 {
-        return Said::Ends(steps, exposures);
-    }
-    if octets::both(card[3] == 2, card[4] <= format.last) {
-        return Said::Calls(card[4], steps, exposures);
-    }
-    Said::Wrong
-}
-
-// What is reported where nothing is listed.
-fn unlisted(code: u8) -> Report
-    ensures { result ≡ report_of (told [] (Unlisted code) 0 0) }
-{
-    Report {
-        ending: Ending::Unlisted(code),
-        listed: [0u8; memory::SEQUENCES],
-        count: 0,
-        steps: 0,
-        exposures: 0,
-    }
-}
-
-// What is reported of a chain that passes, or that ends at a fault, which has no totals.
-fn reported(chain: Chain, ending: Ending) -> Report
-    ensures { result ≡ reported_as chain ending }
-{
-    let listed = chain.listed;
-    Report {
-        ending,
-        listed,
-        count: chain.count,
-        steps: survey::total(ending, chain.steps),
-        exposures: survey::total(ending, chain.exposures),
+    match card[0] {
+        0 => {
+            let closing = closing_in(format, card)?;
+            let steps = octets::number(&card[8..16]);
+            let exposures = octets::number(&card[16..24]);
+            if TOO_MANY <= steps || TOO_MANY <= exposures {
+                return None;
+            }
+            Some(Ok(Closed {
+                place: 0,
+                closing,
+                steps,
+                exposures,
+            }))
+        }
+        1 => {
+            let fault = Fault {
+                code: card[2],
+                place: card[1],
+            };
+            Some(Err((fault, reason_from(card[5], card[6]))))
+        }
+        _ => None,
     }
 }
 
 // The chain from a sequence on, as the cards say it, up to its end, its return, its first fault, or a card that no tables give.
+// Stays: a loop of its own, since the table check goes along its chain by two functions that call each other, the scope's own form.
 fn follow(format: Format, summary: &[u8], first: u8) -> Report
     requires { Sized format summary.now × (first ≤ format.last) }
     ensures { result ≡ report_of (unless_wrong format summary.now (chain_of format (sayings summary.now) first)) }
 {
     let mut chain = survey::empty();
     let mut n = first;
-    while chain.count < memory::SEQUENCES {
-        let at = chain.count;
-        let mark = n as usize;
+    for at in 0..memory::SEQUENCES {
         chain.listed[at] = n;
-        chain.marks[mark] = true;
+        chain.marks[n as usize] = true;
         chain.count = at + 1;
-        let next = match said_by(format, octets::part(summary, mark * CARD, CARD)) {
-            Said::Wrong => return unlisted(17),
-            Said::Faults(fault, reason) => {
-                return reported(chain, Ending::Faults(n, fault, reason));
+        let closed = match said_by(format, card_at(summary, n)) {
+            Some(Ok(closed)) => closed,
+            Some(Err((fault, reason))) => {
+                return chain.reported(Ending::Faults(n, fault, reason));
             }
-            Said::Ends(steps, exposures) => {
-                chain.steps += steps;
-                chain.exposures += exposures;
-                return reported(chain, Ending::Finishes);
-            }
-            Said::Calls(target, steps, exposures) => {
-                chain.steps += steps;
-                chain.exposures += exposures;
-                target
-            }
+            None => return survey::unlisted(17),
         };
-        if chain.marks[next as usize] {
-            return reported(chain, Ending::Returns);
+        chain.steps += closed.steps;
+        chain.exposures += closed.exposures;
+        let target = match closed.closing {
+            Closing::Terminates => return chain.reported(Ending::Finishes),
+            Closing::CallsOn(target) => target,
+        };
+        if chain.marks[target as usize] {
+            return chain.reported(Ending::Returns);
         }
-        n = next;
+        n = target;
     }
-    reported(chain, Ending::Returns)
+    chain.reported(Ending::Returns)
 }
 
 // The table check from the cards alone: 16 for a summary of a wrong size or of no kind, then 7 for a number above the last, then the chain; 17, with
 // nothing listed, for a card on the way that no tables give.
+#[tactic(auto, using(crate::proofs::Whole::sized_of), unfolding(crate::specs::Chain::check_cards, crate::specs::Chain::cards_rows))]
 pub fn check(kind: u32, summary: &[u8], number: u32) -> Report
     ensures { result ≡ report_of (check_cards (format_of kind) summary.now number) }
 {
     if summary_wrong(kind, summary) {
-        return unlisted(16);
+        return survey::unlisted(16);
     }
     let format = Format::of(kind);
     if (format.last as u32) < number {
-        return unlisted(7);
+        return survey::unlisted(7);
     }
     follow(format, summary, number as u8)
 }

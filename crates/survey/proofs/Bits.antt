@@ -22,11 +22,8 @@ unfolding among
 among-snoc k n names = among-append k names (n ∷ []) ∙ ap (λ (t : Bool). among k names || t) (or-false (eqb n k))
 
 -- ── bits
-pub bit-most : (k : ℕ) → 2 ^ (47 - k) ≤ 2 ^ 47
-bit-most k = let h : 47 - k ≤ 47 = omega arith in pow_mono h
-
 -- a number with a bit set that it has, or has not
-pub or-bit : (n j : ℕ) → bit_or n (2 ^ j) ≡ cond (eqb (n / 2 ^ j % 2) 1) n (n + 2 ^ j)
+or-bit : (n j : ℕ) → bit_or n (2 ^ j) ≡ cond (eqb (n / 2 ^ j % 2) 1) n (n + 2 ^ j)
 or-bit n j =
     by-test (eqb (a % 2) 1)
     (λ e. let m = eqb-true (a % 2) 1 e in let b : bit_or a 1 ≡ a = high ∙ omega arith in rw e (whole ∙ ap (λ (t : ℕ). t * 2 ^ j + n % 2 ^ j) b ∙ parts))
@@ -51,6 +48,14 @@ or-bit n j =
     whole =
         sym (ap₂ bit_or parts one) ∙ or_block j a 1 (n % 2 ^ j) 0 (mod-lt n (pow_pos j)) (pow_pos j)
         ∙ ap (λ (r : ℕ). bit_or a 1 * 2 ^ j + r) (or_zero_r (n % 2 ^ j))
+
+-- a set with one list more, by its bit
+pub or_with : (bits k : ℕ) → k ≤ 47 → bit_or bits (1 * 2 ^ (47 - k) % 2 ^ 64) ≡ with_list bits k
+unfolding has_list
+or_with bits k h =
+    let low : 47 - k ≤ 47 = omega arith in
+    let fits : 1 * 2 ^ (47 - k) % 2 ^ 64 ≡ 2 ^ (47 - k) = let most : 2 ^ (47 - k) ≤ 2 ^ 47 = pow_mono low in omega arith in
+    rw (fits, le-leb k 47 h) (or-bit bits (47 - k))
 
 abbrev bit : Bool → ℕ
 bit b = cond b 1 0

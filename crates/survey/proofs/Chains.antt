@@ -1,5 +1,5 @@
 -- Laws of the chain: what it keeps as it grows, and one law for each way out of the cycle of the two checks. Assumes nothing.
-use Prim.Native.Nat.{ℕ, zero, suc, ◌+◌, ◌*◌, ◌-◌, ◌≤◌, ◌<◌, ◌^◌, zero-le}
+use Prim.Native.Nat.{ℕ, zero, suc, ◌+◌, ◌-◌, ◌≤◌, ◌<◌, ◌^◌, zero-le}
 use native.Mathlib.Nat.{le_of_suc-le-suc, not-suc-le-zero, add-zero, zero-add, add_assoc}
 use native.Mathlib.Decide.{ℕ_discrete}
 use native.Mathlib.Omega.{arith}
@@ -7,21 +7,21 @@ use mathlib.Core.Path.{◌≡◌, refl, sym, ap, ap₂, ◌∙◌, subst}
 use mathlib.Core.Bool.{Bool, true, false, ◌||◌, true≢false}
 use mathlib.Core.List.{List, [], ◌∷◌, ◌++◌, reverse, reverse-cons, append-nil}
 use lib.Dec.{eqb}
-use lib.ListN.{length, get_or, set, take, replicate, length-set, length-append, length-reverse, get_or-replicate}
-use lib.Seq.{get_or-set_same, get_or-set_other, set_at, append_snoc, take_all}
+use lib.ListN.{length, get_or, set, replicate, length-set, length-append, length-reverse, get_or-replicate}
+use lib.Seq.{get_or-set_same, get_or-set_other, set_at, append_snoc}
 use borrow.Author.Tests.{eq-eqb, ne_eqb, lt-ltb, le-ltb}
+use Rattle.std.specs.Prelude.{Ok, Err, None}
 use Rattle.octets.proofs.Bools.{either}
 use Rattle.memory.specs.declared.Format.{Format}
 use Rattle.memory.specs.Memory.{tables_wrong, entry_of}
-use Rattle.memory.proofs.Laws.{Fair, entry-short}
+use Rattle.memory.proofs.Laws.{Fair}
 use Rattle.sequence.specs.declared.Fault.{Fault}
-use Rattle.sequence.specs.declared.ListCard.{ListCard}
+use Rattle.sequence.specs.LineList.{ListCard}
 use Rattle.sequence.specs.Starts.{among}
 use Rattle.sequence.specs.Env.{Env, env_of, text_of}
 use Rattle.survey.specs.declared.Closing.{Closing}
 use Rattle.survey.specs.declared.Closing.TheVariants.{Terminates, CallsOn}
-use Rattle.survey.specs.declared.Walked.{Walked}
-use Rattle.survey.specs.declared.Walked.TheVariants.{Faulty, Closed}
+use Rattle.survey.specs.declared.Closed.{Closed}
 use Rattle.survey.specs.declared.Ending.{Ending}
 use Rattle.survey.specs.declared.Ending.TheVariants.{Unlisted, Finishes, Returns, Faults}
 use Rattle.survey.specs.declared.Reason.{Reason}
@@ -29,15 +29,14 @@ use Rattle.survey.specs.declared.Reason.TheVariants.{None}
 use Rattle.survey.specs.declared.Chain.{Chain}
 use Rattle.survey.specs.declared.Checked.{Checked}
 use Rattle.survey.specs.declared.Report.{Report}
-use Rattle.survey.specs.Walk.{Finding, passes, faults, reason_for, check_one, finding_of}
+use Rattle.survey.specs.Walk.{Finding, passes, faults, reason_for, finding_of}
 use Rattle.survey.specs.Chain.{Told, told, total, front, onward, follow, chain_of, check_rows, check_of}
-use Rattle.survey.specs.Report.{padded, report_of, walked_of}
+use Rattle.survey.specs.Report.{Walked, padded, report_of, walked_of}
 use Rattle.survey.specs.Held.{AtMost, unmarked, Marked, Free, Is, LowCall, joined, ahead, empty_chain, reasoned, reported}
 use Rattle.survey.proofs.Names.{low-one}
 use Rattle.survey.proofs.Listing.{unlisted-most, follow-enough}
-use Rattle.survey.proofs.Totals.{Octets, part-octets}
 use Rattle.survey.proofs.Reasons.{Right, right-one}
-use Rattle.survey.proofs.Laws.{one-most, one-low}
+use Rattle.survey.proofs.Laws.{one-low}
 
 -- ── marks
 -- one mark more is one unmarked fewer
@@ -111,16 +110,16 @@ joined-front names a b n k x t =
 
 -- what was found of sequence n, and where its closing command leads; why: the reason of a fault
 abbrev steps_in : Walked → ℕ
-steps_in (Faulty f) = 0
-steps_in (Closed p c k x) = k
+steps_in (Err f) = 0
+steps_in (Ok c) = c.steps
 
 abbrev exposures_of : Walked → ℕ
-exposures_of (Faulty f) = 0
-exposures_of (Closed p c k x) = x
+exposures_of (Err f) = 0
+exposures_of (Ok c) = c.exposures
 
 abbrev leads : (ℕ → Told) → ℕ → (Fault → Reason) → Walked → Told
-leads go n why (Faulty f) = told [] (Faults n f (why f)) 0 0
-leads go n why (Closed p c k x) = ahead go c
+leads go n why (Err f) = told [] (Faults n f (why f)) 0 0
+leads go n why (Ok c) = ahead go c.closing
 
 onward-leads : (cards : ℕ → ListCard) (text : List ℕ) (go : ℕ → Told) (n : ℕ) (found : Finding) → Right cards text found
     → onward go n found ≡ front n (steps_in (walked_of found)) (exposures_of (walked_of found)) (leads go n (reason_for cards text) (walked_of found))
@@ -159,10 +158,6 @@ module _ (E : Env) (seqs : List ℕ) (chain : Chain) (c : Closing) where
     close-back l q names is =
         rw (e, follow-back (finding_of E seqs) (unmarked chain.marks) names m (sym (is.marks m l) ∙ q)) (end-said E seqs chain names is Returns)
 
-    pub close-next : (r : Checked) → Reports E seqs chain (λ names. follow (finding_of E seqs) (unmarked chain.marks) names m) r
-        → Reports E seqs chain (λ names. ahead (follow (finding_of E seqs) (unmarked chain.marks) names) c) r
-    close-next r h names is = rw e (h names is)
-
 -- ── each way out of a sequence
 -- the turns left once sequence n is listed
 abbrev left : Chain → ℕ → ℕ
@@ -171,13 +166,9 @@ left chain n = unmarked (set chain.marks n true)
 -- sequence n is not listed yet, and w was found of its text
 pub record Visit (F : Format) (lists seqs : List ℕ) (chain : Chain) (n : ℕ) (w : Walked) : Type 0 where
   pub fair : Fair F
-  pub octets : Octets seqs
+  pub most : AtMost (2 ^ 54) w
   pub free : Free chain n
   pub found : w ≡ walked_of (finding_of (env_of F lists) seqs n)
-
-pub of_entry : (F : Format) (lists seqs : List ℕ) (n : ℕ) (w : Walked) (text : List ℕ) → text ≡ entry_of F seqs n
-    → w ≡ walked_of (check_one (env_of F lists) (take F.size text)) → w ≡ walked_of (finding_of (env_of F lists) seqs n)
-of_entry F lists seqs n w text et ew = rw (et, take_all F.size (entry_of F seqs n) (entry-short F seqs n)) at ew
 
 module _ {F : Format} {lists seqs : List ℕ} {chain : Chain} {n : ℕ} {w : Walked} (v : Visit F lists seqs chain n w) where
   abbrev E : Env
@@ -195,25 +186,24 @@ module _ {F : Format} {lists seqs : List ℕ} {chain : Chain} {n : ℕ} {w : Wal
       rw (one_fewer chain n v.free, new, onward-leads E.cards (text_of E seqs n) go n (found n) (right-one E (text_of E seqs n)), ← v.found)
       (joined-front names a b n (steps_in w) (exposures_of w) (leads go n (reason_for E.cards (text_of E seqs n)) w))
 
-  pub seq-fault : (f : Fault) → w ≡ Faulty f
+  pub seq-fault : (f : Fault) → w ≡ Err f
       → Reports E seqs chain (λ names. follow found (unmarked chain.marks) names n) (checked (listed_with chain n) (Faults n f None))
   seq-fault f e names is =
       rw (turned names is chain.steps chain.exposures, e)
       (end-said E seqs (listed_with chain n) (n ∷ names) (is-entered chain n v.free names is) (Faults n f None))
 
-  module _ (p k x : ℕ) (c : Closing) (e : w ≡ Closed p c k x) where
-    most : (k ≤ 2 ^ 54) × (x ≤ 2 ^ 54)
+  module _ (c : Closed) (e : w ≡ Ok c) where
+    most : (c.steps ≤ 2 ^ 54) × (c.exposures ≤ 2 ^ 54)
     most =
-        subst (AtMost (2 ^ 54)) e
-        (one-most (env_of F lists) (entry_of F seqs n) w v.found (part-octets seqs (n * F.size) F.size v.octets) (omega (arith, entry-short F seqs n, v.fair.size)))
+        subst (AtMost (2 ^ 54)) e v.most
 
-    pub next_low : LowCall c
-    next_low = one-low (env_of F lists) (entry_of F seqs n) w v.found v.fair.last p k x c e
+    pub next_low : LowCall c.closing
+    next_low = one-low (env_of F lists) (entry_of F seqs n) w v.found v.fair.last c e
 
-    pub next_fits : (chain.steps + k < 2 ^ 64) × (chain.exposures + x < 2 ^ 64)
+    pub next_fits : (chain.steps + c.steps < 2 ^ 64) × (chain.exposures + c.exposures < 2 ^ 64)
     next_fits = omega (arith, most, room chain n v.free, v.free.kept.steps-fit, v.free.kept.exposures-fit)
 
-    pub next-kept : Marked (added (listed_with chain n) k x)
+    pub next-kept : Marked (added (listed_with chain n) c.steps c.exposures)
     next-kept =
         record {
           listed-long = length-set chain.listed chain.count n ∙ v.free.kept.listed-long;
@@ -226,7 +216,7 @@ module _ {F : Format} {lists seqs : List ℕ} {chain : Chain} {n : ℕ} {w : Wal
     pub next-fewer : left chain n + left chain n + 1 < unmarked chain.marks + unmarked chain.marks
     next-fewer = omega (arith, one_fewer chain n v.free)
 
-    pub seq-next : (r : Checked) → Reports E seqs (added (listed_with chain n) k x) (λ names. ahead (follow found (left chain n) names) c) r
+    pub seq-next : (r : Checked) → Reports E seqs (added (listed_with chain n) c.steps c.exposures) (λ names. ahead (follow found (left chain n) names) c.closing) r
         → Reports E seqs chain (λ names. follow found (unmarked chain.marks) names n) r
     seq-next r h names is =
         let i = is-entered chain n v.free names is in
@@ -265,23 +255,19 @@ follow-whole found (suc f) names n =
     let go : ℕ → Told = λ m. follow found f (n ∷ names) m in
     either (λ (t : Told). joined [] 0 0 t ≡ t) (among n names) (told [] Returns 0 0) (onward go n (found n)) refl (onward-whole go n (found n))
 
-module _ (F : Format) (seqs lists : List ℕ) (n : ℕ) (start : Chain) (es : start ≡ empty_chain) (wrong : Bool) (ew : wrong ≡ tables_wrong F seqs lists) (r : Report) where
-  nothing_said : (code : ℕ) → reported (env_of F lists) seqs (checked start (Unlisted code)) ≡ report_of (told [] (Unlisted code) 0 0)
-  unfolding reported report_of padded
-  nothing_said code = rw es
-
-  pub check-wrong : wrong ≡ true → r ≡ reported (env_of F lists) seqs (checked start (Unlisted 16)) → r ≡ report_of (check_of F seqs lists n)
+module _ (F : Format) (seqs lists : List ℕ) (n : ℕ) (wrong : Bool) (ew : wrong ≡ tables_wrong F seqs lists) {r : Report} where
+  pub check-wrong : wrong ≡ true → r ≡ report_of (told [] (Unlisted 16) 0 0) → r ≡ report_of (check_of F seqs lists n)
   unfolding check_of check_rows
-  check-wrong t h = rw (← ew, t) (h ∙ nothing_said 16)
+  check-wrong t h = rw (← ew, t) h
 
-  pub check-high : wrong ≡ false → F.last < n → r ≡ reported (env_of F lists) seqs (checked start (Unlisted 7)) → r ≡ report_of (check_of F seqs lists n)
+  pub check-high : wrong ≡ false → F.last < n → r ≡ report_of (told [] (Unlisted 7) 0 0) → r ≡ report_of (check_of F seqs lists n)
   unfolding check_of check_rows
-  check-high t l h = rw (← ew, t, lt-ltb F.last n l) (h ∙ nothing_said 7)
+  check-high t l h = rw (← ew, t, lt-ltb F.last n l) h
 
-  pub check-runs : F.last ≤ 127 → wrong ≡ false → n ≤ F.last → (d : Checked)
+  pub check-runs : (start : Chain) → start ≡ empty_chain → F.last ≤ 127 → wrong ≡ false → n ≤ F.last → (d : Checked)
       → Reports (env_of F lists) seqs start (λ names. follow (finding_of (env_of F lists) seqs) (unmarked start.marks) names n) d → r ≡ reported (env_of F lists) seqs d → r ≡ report_of (check_of F seqs lists n)
   unfolding check_of check_rows chain_of unmarked
-  check-runs fits t l d h er =
+  check-runs start es fits t l d h er =
       let i : Is start [] = rw es is-start in
       let found = finding_of (env_of F lists) seqs in
       rw (← ew, t, le-ltb F.last n l)

@@ -1,6 +1,6 @@
 -- Laws of the first byte that changed: in an entry, in the marked ones of a table, and by address. Assumes nothing.
-use Prim.Native.Nat.{ℕ, suc, ◌+◌, ◌*◌, ◌-◌, ◌≤◌, ◌<◌, ◌/◌, ◌%◌}
-use native.Mathlib.Nat.{le_trans, le_of_eq, add_comm, suc-mul, zero-mul, mul-le-mul_right, div-add-mod'}
+use Prim.Native.Nat.{ℕ, suc, ◌+◌, ◌*◌, ◌-◌, ◌≤◌, ◌<◌, ◌/◌, ◌%◌, min}
+use native.Mathlib.Nat.{add_comm, suc-mul, zero-mul, div-add-mod', le_trans, le_of_eq, mul-le-mul_right}
 use native.Mathlib.Omega.{arith}
 use mathlib.Core.Path.{◌≡◌, refl, sym, ap, ◌∙◌}
 use mathlib.Core.Bool.{Bool, true, false, cond, not, ◌&&◌}
@@ -10,13 +10,15 @@ use lib.Dec.{ltb, eqb}
 use lib.ListN.{take, drop}
 use lib.Arith.{digits_div, digits_mod}
 use borrow.Author.Tests.{ltb-true, lt-ltb, le-ltb, eq-eqb, ne_eqb, eqb-false, not-true}
+use Rattle.std.specs.Prelude.{Option, Some, None}
 use Rattle.octets.specs.Bytes.{byte_at}
-use Rattle.octets.proofs.Bools.{and_both}
+use Rattle.octets.proofs.Bools.{and_both, by-test}
 use Rattle.memory.specs.declared.Format.{Format}
 use Rattle.memory.proofs.Laws.{part-byte}
 use Rattle.sequence.specs.Starts.{among}
 use Rattle.survey.specs.Still.{lists_over, in_entries, another, changed_in, changed_at, first_of, lowest_changed}
-use Rattle.survey.proofs.Search.{first-none, first-split, first-shift, first-same, first-skip, ltb-shift}
+use Rattle.survey.specs.Held.{found_below}
+use Rattle.survey.proofs.Search.{below-some, below-none, first-none, first-split, first-shift, first-skip, ltb-shift}
 
 -- ── entries of one size, one after another
 -- the byte at an offset is byte i of entry n, one of these, within its length
@@ -70,28 +72,31 @@ abbrev pub another_within : List ℕ → List ℕ → ℕ → ℕ → Bool
 another_within was is end i = ltb i end && another was is i
 
 module _ (was is : List ℕ) (at size b : ℕ) where
-  -- the length is past the entry's end: all of them are
-  pub entry_whole : size ≤ b → first_of (another_within was is (at + b)) size at ≡ first_of (another was is) size at
-  entry_whole h = first-same (another_within was is (at + b)) (another was is) size at (λ i l. rw (lt-ltb (at + i) (at + b) (omega arith)))
+  -- of the entry's own bytes at most all, up to this end
+  module _ (found end : ℕ) (h : end ≡ at + min b size) (e : found ≡ first_of (another was is) (end - at) at) where
+    entry-part : first_of (another_within was is (at + b)) size at ≡ cond (ltb found end) found (at + size)
+    entry-part =
+        let k = min b size in
+        let few : end - at ≡ k = omega arith in
+        let whole : size ≡ k + (size - k + 0) = omega arith in
+        let past : at + k + (size - k) ≡ at + size = omega arith in
+        rw (e, few, h)
+        (ap (λ (m : ℕ). first_of (another_within was is (at + b)) m at) whole
+        ∙ first-split (another_within was is (at + b)) (another was is) k (size - k + 0) at (λ i l. rw (lt-ltb (at + i) (at + b) (omega arith)))
+        ∙ ap (cond (ltb (first_of (another was is) k at) (at + k)) (first_of (another was is) k at))
+        (first-skip (another_within was is (at + b)) (size - k) 0 (at + k) (λ i l. rw (le-ltb (at + k + i) (at + b) (omega arith))) ∙ first-none (another_within was is (at + b)) (at + k + (size - k)) ∙ past))
 
-  -- it is not
-  entry-part : b ≤ size → first_of (another_within was is (at + b)) size at ≡ cond (ltb (first_of (another was is) b at) (at + b)) (first_of (another was is) b at) (at + size)
-  entry-part h =
-      let whole : size ≡ b + (size - b + 0) = omega arith in
-      let past : at + b + (size - b) ≡ at + size = omega arith in
-      ap (λ (k : ℕ). first_of (another_within was is (at + b)) k at) whole
-      ∙ first-split (another_within was is (at + b)) (another was is) b (size - b + 0) at (λ i l. rw (lt-ltb (at + i) (at + b) (omega arith)))
-      ∙ ap (cond (ltb (first_of (another was is) b at) (at + b)) (first_of (another was is) b at))
-      (first-skip (another_within was is (at + b)) (size - b) 0 (at + b) (λ i l. rw (le-ltb (at + b + i) (at + b) (omega arith))) ∙ first-none (another_within was is (at + b)) (at + b + (size - b)) ∙ past)
-
-  pub entry_found : (found : ℕ) → b ≤ size → found ≡ first_of (another was is) b at → found < at + b → found ≡ first_of (another_within was is (at + b)) size at
-  entry_found found h e l = e ∙ sym (entry-part h ∙ rw (← e, lt-ltb found (at + b) l))
-
-  pub entry-over : (found : ℕ) → b ≤ size → found ≡ first_of (another was is) b at → at + b ≤ found → at + size ≡ first_of (another_within was is (at + b)) size at
-  entry-over found h e l = sym (entry-part h ∙ rw (← e, le-ltb found (at + b) l))
+  pub entry_so : (found : Option ℕ) (end : ℕ) → end ≡ at + min b size → found ≡ found_below end (first_of (another was is) (end - at) at)
+      → found ≡ found_below (at + size) (first_of (another_within was is (at + b)) size at)
+  entry_so found end h e =
+      let f = first_of (another was is) (end - at) at in
+      rw (e, entry-part f end h refl)
+      (by-test (ltb f end)
+      (λ t. let l = ltb-true f end t in rw (t, lt-ltb f (at + size) (omega arith)))
+      (λ t. rw (t, le-ltb (at + size) (at + size) (omega arith))))
 
 -- each of so many entries lies in the table
-pub entry-fits : (size count n : ℕ) → n < count → n * size + size ≤ count * size
+entry-fits : (size count n : ℕ) → n < count → n * size + size ≤ count * size
 entry-fits size count n h = le_trans (le_of_eq (sym (suc-mul n size))) (mul-le-mul_right size h)
 
 module _ (size : ℕ) (was is entries : List ℕ) where
@@ -106,9 +111,6 @@ module _ (size : ℕ) (was is entries : List ℕ) where
   -- so many entries are left from n on, and what is found in them is what is found in all
   abbrev pub Looking : ℕ → ℕ → Type 0
   Looking count n = first_of test ((count - n) * size) (n * size) ≡ first_of test (count * size) 0
-
-  pub looking-start : (count : ℕ) → Looking count 0
-  looking-start count = let e : count - 0 ≡ count = omega arith in rw (e, zero-mul size)
 
   module _ (count n : ℕ) (h : n < count) where
     one_less : (count - n) * size ≡ size + (count - (n + 1)) * size
@@ -125,31 +127,39 @@ module _ (size : ℕ) (was is entries : List ℕ) where
         ∙ k
 
     -- one that is has its own first, or none
-    module _ (found : ℕ) (e : among n entries ≡ true) (f : found ≡ first_of (another_within was is (n * size + byte_at was (n * size))) size (n * size)) where
-      looked : first_of test ((count - n) * size) (n * size) ≡ cond (ltb found (n * size + size)) found (first_of test ((count - (n + 1)) * size) (n * size + size))
+    module _ (e : among n entries ≡ true) where
+      abbrev own : ℕ
+      own = first_of (another_within was is (n * size + byte_at was (n * size))) size (n * size)
+
+      looked : first_of test ((count - n) * size) (n * size) ≡ cond (ltb own (n * size + size)) own (first_of test ((count - (n + 1)) * size) (n * size + size))
       looked =
           ap (λ (m : ℕ). first_of test m (n * size)) one_less
           ∙ first-split test (another_within was is (n * size + byte_at was (n * size))) size ((count - (n + 1)) * size) (n * size) (λ i l. changed-is n i l ∙ rw (e, ltb-shift (n * size) i (byte_at was (n * size))))
-          ∙ rw (← f)
 
-      pub looking-found : found < n * size + size → Looking count n → found ≡ first_of test (count * size) 0
-      looking-found l k = sym (looked ∙ rw (lt-ltb found (n * size + size) l)) ∙ k
+      pub looking-found : (at : ℕ) → found_below (n * size + size) own ≡ Some at → Looking count n → Some at ≡ found_below (count * size) (first_of test (count * size) 0)
+      looking-found at s k =
+          let (l, same) = below-some (n * size + size) own at s in
+          let f : own ≡ first_of test (count * size) 0 = sym (looked ∙ rw (lt-ltb own (n * size + size) l)) ∙ k in
+          rw (← f, lt-ltb own (count * size) (omega (arith, entry-fits size count n h)), same)
 
-      pub looking-on : n * size + size ≤ found → Looking count n → Looking count (n + 1)
-      looking-on l k = ap (first_of test ((count - (n + 1)) * size)) (sym next-at) ∙ sym (looked ∙ rw (le-ltb found (n * size + size) l)) ∙ k
+      pub looking-on : found_below (n * size + size) own ≡ None → Looking count n → Looking count (n + 1)
+      looking-on none k =
+          ap (first_of test ((count - (n + 1)) * size)) (sym next-at)
+          ∙ sym (looked ∙ rw (le-ltb own (n * size + size) (below-none (n * size + size) own none))) ∙ k
 
-  pub looking-over : (count n : ℕ) → count ≤ n → n ≤ count → Looking count n → count * size ≡ first_of test (count * size) 0
+  pub looking-over : (count n : ℕ) → count ≤ n → n ≤ count → Looking count n → None ≡ found_below (count * size) (first_of test (count * size) 0)
   looking-over count n l m k =
       let e : count - n ≡ 0 = omega arith in
       let f : n ≡ count = omega arith in
-      sym (rw f (first-none test (count * size))) ∙ (rw (e, zero-mul size) at k)
+      let over : count * size ≡ first_of test (count * size) 0 = sym (rw f (first-none test (count * size))) ∙ (rw (e, zero-mul size) at k) in
+      rw (← over, le-ltb (count * size) (count * size) (omega arith))
 
 -- ── the lowest address
 module _ (F : Format) (seqs lists seqs' lists' names : List ℕ) where
-  abbrev in_seqs : ℕ
+  abbrev pub in_seqs : ℕ
   in_seqs = first_of (changed_in F.size seqs seqs' names) 16384 0
 
-  abbrev in_lists : ℕ
+  abbrev pub in_lists : ℕ
   in_lists = first_of (changed_in 164 lists lists' (lists_over F seqs names)) 7872 0
 
   abbrev by_address : ℕ → Bool
@@ -172,9 +182,23 @@ module _ (F : Format) (seqs lists seqs' lists' names : List ℕ) where
       first-split by_address by_address 16384 7872 0x070000 (λ i l. refl)
       ∙ rw (seqs-first, lists-first, ltb-shift 0x070000 in_seqs 16384)
 
-  -- in the sequence table, or else in the line lists
-  pub lowest-sequence : (at : ℕ) → at ≡ in_seqs → at < 16384 → 0x070000 + at ≡ lowest_changed F seqs lists seqs' lists' names
-  lowest-sequence at e l = sym (by-tables ∙ rw (← e, lt-ltb at 16384 l))
+  abbrev pub told : Option ℕ
+  told = found_below 0x075EC0 (lowest_changed F seqs lists seqs' lists' names)
 
-  pub lowest-list : (at found : ℕ) → at ≡ in_seqs → 16384 ≤ at → found ≡ in_lists → 0x074000 + found ≡ lowest_changed F seqs lists seqs' lists' names
-  lowest-list at found e l f = sym (by-tables ∙ rw (← e, ← f, le-ltb at 16384 l))
+  -- in the sequence table, or else in the line lists, or in none
+  pub lowest-sequence : (at : ℕ) → Some at ≡ found_below 16384 in_seqs → Some (0x070000 + at) ≡ told
+  lowest-sequence at e =
+      let (l, s) = below-some 16384 in_seqs at (sym e) in
+      rw (by-tables, lt-ltb in_seqs 16384 l, lt-ltb (0x070000 + in_seqs) 0x075EC0 (omega arith), s)
+
+  module _ (none : None ≡ found_below 16384 in_seqs) where
+    by-lists : lowest_changed F seqs lists seqs' lists' names ≡ 0x074000 + in_lists
+    by-lists = by-tables ∙ rw (le-ltb in_seqs 16384 (below-none 16384 in_seqs (sym none)))
+
+    pub lowest-list : (at : ℕ) → Some at ≡ found_below 7872 in_lists → Some (0x074000 + at) ≡ told
+    lowest-list at e =
+        let (l, s) = below-some 7872 in_lists at (sym e) in
+        rw (by-lists, lt-ltb (0x074000 + in_lists) 0x075EC0 (omega arith), s)
+
+    pub lowest-none : None ≡ found_below 7872 in_lists → None ≡ told
+    lowest-none e = let l = below-none 7872 in_lists (sym e) in rw (by-lists, le-ltb (0x074000 + in_lists) 0x075EC0 (omega arith))

@@ -9,13 +9,13 @@ use mathlib.Core.List.{List, [], ◌∷◌}
 use lib.Dec.{ltb, leb, eqb}
 use lib.ListN.{length}
 use borrow.Author.Tests.{ltb-true, le-leb, lt-leb, le-ltb, lt-ltb, eq-eqb, ne_eqb}
+use Rattle.std.specs.Prelude.{Option, Some, None}
 use Rattle.octets.proofs.Bools.{and_both, choice}
 use Rattle.sequence.specs.Text.{size_at}
 use Rattle.sequence.specs.Starts.{starts, starts_of, among, first_exposure, target_good}
 use Rattle.sequence.proofs.Laws.{size-inside}
 use Rattle.sequence.proofs.Hops.{Hops, here, hop, hops-le, hops-snoc, hops-add, hops-from, start-hops, first-exposure}
 use Rattle.runner.specs.declared.Opened.{Opened}
-use Rattle.runner.specs.declared.Opened.TheVariants.{Shut, Open}
 use Rattle.survey.specs.Walk.{count, commands, scan}
 use Rattle.survey.specs.Held.{between, counted_scan}
 
@@ -91,17 +91,17 @@ abbrev pub Start : List ℕ → ℕ → Type 0
 Start text p = (n : ℕ) × Hops text 4 p n
 
 -- and the open raster's run raster is one of them
-abbrev pub Reached : List ℕ → ℕ → Opened → Type 0
-Reached text p Shut = Start text p
-Reached text p (Open r c left) = Start text r.0 × ((n : ℕ) × Hops text r.0 p (suc n))
+abbrev pub Reached : List ℕ → ℕ → Option Opened → Type 0
+Reached text p None = Start text p
+Reached text p (Some opened) = Start text opened.place.0 × ((n : ℕ) × Hops text opened.place.0 p (suc n))
 
-pub reached-start : (text : List ℕ) (p : ℕ) (o : Opened) → Reached text p o → Start text p
-reached-start text p Shut s = s
-reached-start text p (Open r c left) ((m, h), (n, g)) = (m + suc n, hops-add h g)
+pub reached-start : (text : List ℕ) (p : ℕ) (o : Option Opened) → Reached text p o → Start text p
+reached-start text p None s = s
+reached-start text p (Some opened) ((m, h), (n, g)) = (m + suc n, hops-add h g)
 
-pub reached-on : (text : List ℕ) (p : ℕ) (o : Opened) → Reached text p o → 0 < size_at text p → Reached text (p + size_at text p) o
-reached-on text p Shut (n, h) z = (suc n, hops-snoc h z)
-reached-on text p (Open r c left) (s, (n, g)) z = (s, (suc n, hops-snoc g z))
+pub reached-on : (text : List ℕ) (p : ℕ) (o : Option Opened) → Reached text p o → 0 < size_at text p → Reached text (p + size_at text p) o
+reached-on text p None (n, h) z = (suc n, hops-snoc h z)
+reached-on text p (Some opened) (s, (n, g)) z = (s, (suc n, hops-snoc g z))
 
 -- ── a raster closed by a loop back with a good target
 -- the first hop of several

@@ -8,23 +8,22 @@ use mathlib.Core.List.{List, [], ◌∷◌}
 use lib.Dec.{eqb}
 use lib.ListN.{length}
 use borrow.Author.Tests.{eqb-true, eq-eqb}
+use Rattle.std.specs.Prelude.{Option, Some, None, Result, Ok, Err}
 use Rattle.octets.specs.Rows.{first_code}
 use Rattle.octets.proofs.Bools.{by-test}
 use Rattle.memory.specs.declared.Format.{Format}
 use Rattle.memory.specs.Memory.{tables_wrong}
+use Rattle.sequence.specs.declared.Fault.{Fault}
 use Rattle.sequence.specs.declared.Command.{Command}
 use Rattle.sequence.specs.declared.Command.TheVariants.{RunRaster, Expose, LoopBack, CallSequence, Terminate, Delay, Nothing, Unknown, Unfit}
-use Rattle.sequence.specs.declared.Header.{Header}
-use Rattle.sequence.specs.declared.Header.TheVariants.{Repeats, Bad}
 use Rattle.sequence.specs.Text.{number_of, size_of, size_at, header_of, command_at, is_run_raster}
 use Rattle.sequence.specs.Starts.{among, starts, starts_of, rasters_among}
 use Rattle.sequence.specs.Raster.{raster_at}
-use Rattle.sequence.specs.declared.ListCard.{ListCard}
+use Rattle.sequence.specs.LineList.{ListCard}
 use Rattle.sequence.specs.Env.{cards_of, env_of}
 use Rattle.sequence.specs.Within.{Alike}
 use Rattle.sequence.proofs.Within.{header-alike, size-alike, starts-alike, raster-alike, card-alike}
 use Rattle.runner.specs.declared.Opened.{Opened}
-use Rattle.runner.specs.declared.Opened.TheVariants.{Shut, Open}
 use Rattle.runner.specs.declared.Act.{Act}
 use Rattle.runner.specs.declared.Act.TheVariants.{Refused, Opens, Exposes, Loops, Waits, Calls, Ends}
 use Rattle.runner.specs.Judge.{judged, judge}
@@ -44,11 +43,11 @@ module _ (cards cards' : ℕ → ListCard) where
   SameAt text p = command_at text p ≡ RunRaster → (raster_at text p).list ≤ 47 → cards' (raster_at text p).list ≡ cards (raster_at text p).list
 
   -- a run raster that tests its line list stands there, and names one that the table has
-  pub same-judge : (text : List ℕ) (p : ℕ) → SameAt text p → (o : Opened) → judge cards' text p o ≡ judge cards text p o
+  pub same-judge : (text : List ℕ) (p : ℕ) → SameAt text p → (o : Option Opened) → judge cards' text p o ≡ judge cards text p o
   same-judge text p h o = tested-judge text p o cards cards' (λ t. let (run, low) = tests-run text p o t in h run low)
 
 -- ── where no command stands whole, every judgement is a refusal
-none-judged : (cards : ℕ → ListCard) (text : List ℕ) (p : ℕ) (o : Opened) (k : Command) → size_of (number_of k) ≡ 0 → judged cards text p o k ≡ Refused 3
+none-judged : (cards : ℕ → ListCard) (text : List ℕ) (p : ℕ) (o : Option Opened) (k : Command) → size_of (number_of k) ≡ 0 → judged cards text p o k ≡ Refused 3
 unfolding judged size_of
 none-judged cards text p o RunRaster e = absurd (omega arith)
 none-judged cards text p o (Expose t) e = absurd (omega arith)
@@ -60,7 +59,7 @@ none-judged cards text p o Nothing e = refl
 none-judged cards text p o Unknown e = refl
 none-judged cards text p o Unfit e = refl
 
-pub none-judge : (cards : ℕ → ListCard) (text : List ℕ) (p : ℕ) (o : Opened) → size_at text p ≡ 0 → judge cards text p o ≡ Refused 3
+pub none-judge : (cards : ℕ → ListCard) (text : List ℕ) (p : ℕ) (o : Option Opened) → size_at text p ≡ 0 → judge cards text p o ≡ Refused 3
 unfolding judge size_at
 none-judge cards text p o e = none-judged cards text p o (command_at text p) e
 
@@ -89,32 +88,32 @@ module _ (text : List ℕ) where
 -- ── the walk of a text reads what is read of it, and the line lists of the run rasters at its starts
 module _ (cards cards' : ℕ → ListCard) {text text' : List ℕ} (a : Alike text text') where
   -- an item's steps and exposures come from its run raster
-  closed_same : (q t : ℕ) (o : Opened) → OnRaster text o → (found : Finding) → closed text' q t o found ≡ closed text q t o found
-  closed_same q t Shut h found = refl
-  closed_same q t (Open r c k) h (passes n x is e d) = rw (size-alike a r.0, starts-alike a, raster-alike a r.0 h)
-  closed_same q t (Open r c k) h (faults f reason) = refl
+  closed_same : (q t : ℕ) (o : Option Opened) → OnRaster text o → (found : Finding) → closed text' q t o found ≡ closed text q t o found
+  closed_same q t None h found = refl
+  closed_same q t (Some opened) h (passes n x is e d) = rw (size-alike a opened.place.0, starts-alike a, raster-alike a opened.place.0 h)
+  closed_same q t (Some opened) h (faults f reason) = refl
 
   -- and a pause has one step in any text
-  paused-same : (p : ℕ) (o : Opened) (found : Finding) → paused text' p o found ≡ paused text p o found
-  paused-same p Shut (passes n x is e d) = refl
-  paused-same p Shut (faults f reason) = refl
-  paused-same p (Open r c k) found = refl
+  paused-same : (p : ℕ) (o : Option Opened) (found : Finding) → paused text' p o found ≡ paused text p o found
+  paused-same p None (passes n x is e d) = refl
+  paused-same p None (faults f reason) = refl
+  paused-same p (Some opened) found = refl
 
   -- an act comes to the same, of a 7 with the card of the line list that is named there
-  walked_same : (go go' : ℕ → Opened → Finding) (p : ℕ) → ((o : Opened) → go' (p + size_at text p) o ≡ go (p + size_at text p) o)
-      → (o : Opened) (x : Act) → Tells text p o x → (x ≡ Refused 7 → cards' (raster_at text' p).list ≡ cards (raster_at text p).list)
+  walked_same : (go go' : ℕ → Option Opened → Finding) (p : ℕ) → ((o : Option Opened) → go' (p + size_at text p) o ≡ go (p + size_at text p) o)
+      → (o : Option Opened) (x : Act) → Tells text p o x → (x ≡ Refused 7 → cards' (raster_at text' p).list ≡ cards (raster_at text p).list)
       → walked cards' text' go' p o x ≡ walked cards text go p o x
   unfolding walked
   walked_same go go' p h o (Refused code) w s = by-test (eqb code 7) (λ e. rw (s (ap Refused (eqb-true code 7 e)))) (λ e. rw e)
   walked_same go go' p h o Opens w s = rw (size-alike a p) (h _)
   walked_same go go' p h o (Exposes r) w s = rw (size-alike a p) (h (one_more o))
-  walked_same go go' p h o (Loops t) w s = rw (size-alike a p, h Shut) (closed_same p t o w _)
+  walked_same go go' p h o (Loops t) w s = rw (size-alike a p, h None) (closed_same p t o w _)
   walked_same go go' p h o Waits w s = rw (size-alike a p, h o) (paused-same p o _)
   walked_same go go' p h o (Calls m) w s = refl
   walked_same go go' p h o Ends w s = refl
 
   walk_same : (f p : ℕ) → ((q : ℕ) → among q (starts text f p) ≡ true → SameAt cards cards' text q)
-      → (o : Opened) → walk cards' text' f p o ≡ walk cards text f p o
+      → (o : Option Opened) → walk cards' text' f p o ≡ walk cards text f p o
   unfolding walk walked
   walk_same zero p h o = refl
   walk_same (suc f) p h o =
@@ -127,10 +126,10 @@ module _ (cards cards' : ℕ → ListCard) {text text' : List ℕ} (a : Alike te
       (λ s. let (run, low, why) = seven cards text p o s in rw (raster-alike a p run) (here run low))))
 
   module _ (F : Format) (h : (k : ℕ) → k ≤ 47 → among k (lists_used text) ≡ true → cards' k ≡ cards k) where
-    by-same : (head : Header) → checked_by (record { format = F; cards = cards' }) text' head ≡ checked_by (record { format = F; cards = cards }) text head
+    by-same : (head : Result ℕ Fault) → checked_by (record { format = F; cards = cards' }) text' head ≡ checked_by (record { format = F; cards = cards }) text head
     unfolding starts_of lists_used
-    by-same (Repeats q) = rw a.long (ap (rounds F q) (walk_same (length text) 4 (λ p s r b. h _ b (names text p (starts_of text) s r)) Shut))
-    by-same (Bad f) = refl
+    by-same (Ok q) = rw a.long (ap (rounds F q) (walk_same (length text) 4 (λ p s r b. h _ b (names text p (starts_of text) s r)) None))
+    by-same (Err f) = refl
 
     -- the check of one sequence is that of one that is alike, where the line lists that it uses have the same cards
     pub one_alike : check_one (record { format = F; cards = cards' }) text' ≡ check_one (record { format = F; cards = cards }) text

@@ -9,13 +9,13 @@ use mathlib.Core.List.{List, [], ◌∷◌}
 use lib.Dec.{ltb, eqb}
 use lib.ListN.{length, get_or}
 use borrow.Author.Tests.{ltb-false, eqb-true, eq-eqb}
+use Rattle.std.specs.Prelude.{Result, Ok, Err}
 use Rattle.octets.specs.Rows.{first_code}
 use Rattle.octets.proofs.Laws.{none-holds}
 use Rattle.octets.proofs.Bools.{by-test, choice}
 use Rattle.memory.specs.declared.Format.{Format}
 use Rattle.memory.specs.Memory.{tables_wrong}
-use Rattle.sequence.specs.declared.Header.{Header}
-use Rattle.sequence.specs.declared.Header.TheVariants.{Repeats, Bad}
+use Rattle.sequence.specs.declared.Fault.{Fault}
 use Rattle.sequence.specs.Text.{header_of}
 use Rattle.sequence.specs.Starts.{among}
 use Rattle.sequence.specs.Env.{Env, env_of}
@@ -35,9 +35,9 @@ low-rounds F q (passes k x is p Terminates) = tt
 low-rounds F q (passes k x is p (CallsOn m)) = choice (Low F.last) (ltb F.last m) _ _ (λ _. tt) (λ e. ltb-false F.last m e)
 low-rounds F q (faults f reason) = tt
 
-low_by : (E : Env) (text : List ℕ) (h : Header) → Low E.format.last (checked_by E text h)
-low_by E text (Repeats q) = low-rounds E.format q (walk E.cards text (length text) 4 _)
-low_by E text (Bad f) = tt
+low_by : (E : Env) (text : List ℕ) (h : Result ℕ Fault) → Low E.format.last (checked_by E text h)
+low_by E text (Ok q) = low-rounds E.format q (walk E.cards text (length text) 4 _)
+low_by E text (Err f) = tt
 
 pub low-one : (E : Env) (text : List ℕ) → Low E.format.last (check_one E text)
 unfolding check_one

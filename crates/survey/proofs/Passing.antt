@@ -8,15 +8,15 @@ use mathlib.Core.List.{List, [], ◌∷◌}
 use mathlib.Core.Logic.{◌⊎◌, ⊎_elim}
 use lib.Dec.{eqb}
 use lib.ListN.{length, take, drop}
+use Rattle.std.specs.Prelude.{Option, Some, None, Result, Ok, Err}
 use Rattle.octets.specs.Bytes.{byte_at}
 use Rattle.octets.proofs.Bools.{by-test, clash}
 use Rattle.memory.specs.declared.Format.{Format}
 use Rattle.memory.specs.Memory.{tables_wrong, entry_of, list_of}
 use Rattle.memory.proofs.Laws.{sizes, part-long}
+use Rattle.sequence.specs.declared.Fault.{Fault}
 use Rattle.sequence.specs.declared.Command.TheVariants.{RunRaster}
-use Rattle.sequence.specs.declared.Header.{Header}
-use Rattle.sequence.specs.declared.Header.TheVariants.{Repeats, Bad}
-use Rattle.sequence.specs.declared.ListCard.{ListCard}
+use Rattle.sequence.specs.LineList.{ListCard}
 use Rattle.sequence.specs.Text.{limit, size_at, header_of, command_at, is_run_raster}
 use Rattle.sequence.specs.Starts.{among, starts, starts_of, rasters_among}
 use Rattle.sequence.specs.Raster.{raster_at}
@@ -26,7 +26,6 @@ use Rattle.sequence.proofs.Laws.{none_last, starts-off}
 use Rattle.sequence.proofs.Lengths.{header-length, card-length}
 use Rattle.sequence.proofs.Within.{is-run}
 use Rattle.runner.specs.declared.Opened.{Opened}
-use Rattle.runner.specs.declared.Opened.TheVariants.{Shut, Open}
 use Rattle.runner.specs.declared.Act.{Act}
 use Rattle.runner.specs.declared.Act.TheVariants.{Refused, Opens, Exposes, Loops, Waits, Calls, Ends}
 use Rattle.runner.specs.Judge.{judge}
@@ -52,18 +51,18 @@ module _ (cards : ℕ → ListCard) (text : List ℕ) where
   Named p = command_at text p ≡ RunRaster → ListGood cards (raster_at text p).list
 
   -- what passes with an item in front passes without it
-  after-closed : (q t : ℕ) (o : Opened) (found : Finding) → Passing (closed text q t o found) → Passing found
-  after-closed q t Shut found y = y
-  after-closed q t (Open r c k) (passes n x is e d) y = tt
-  after-closed q t (Open r c k) (faults f reason) y = y
+  after-closed : (q t : ℕ) (o : Option Opened) (found : Finding) → Passing (closed text q t o found) → Passing found
+  after-closed q t None found y = y
+  after-closed q t (Some opened) (passes n x is e d) y = tt
+  after-closed q t (Some opened) (faults f reason) y = y
 
-  after-paused : (p : ℕ) (o : Opened) (found : Finding) → Passing (paused text p o found) → Passing found
-  after-paused p Shut (passes n x is e d) y = tt
-  after-paused p Shut (faults f reason) y = y
-  after-paused p (Open r c k) found y = y
+  after-paused : (p : ℕ) (o : Option Opened) (found : Finding) → Passing (paused text p o found) → Passing found
+  after-paused p None (passes n x is e d) y = tt
+  after-paused p None (faults f reason) y = y
+  after-paused p (Some opened) found y = y
 
   -- where a walk passes, the first command is obeyed, and the rest passes or nothing comes after it
-  walked-obeyed : (go : ℕ → Opened → Finding) (p : ℕ) (o : Opened) (a : Act) → Passing (walked cards text go p o a) → Obeyed a
+  walked-obeyed : (go : ℕ → Option Opened → Finding) (p : ℕ) (o : Option Opened) (a : Act) → Passing (walked cards text go p o a) → Obeyed a
   unfolding walked
   walked-obeyed go p o (Refused code) y = y
   walked-obeyed go p o Opens y = tt
@@ -73,19 +72,19 @@ module _ (cards : ℕ → ListCard) (text : List ℕ) where
   walked-obeyed go p o (Calls m) y = tt
   walked-obeyed go p o Ends y = tt
 
-  walked-rest : {A : Type 0} (go : ℕ → Opened → Finding) (p : ℕ) → ((o : Opened) → Passing (go (p + size_at text p) o) → A) → (p + size_at text p ≡ limit text → A)
-      → (o : Opened) (a : Act) → Tells text p o a → Passing (walked cards text go p o a) → A
+  walked-rest : {A : Type 0} (go : ℕ → Option Opened → Finding) (p : ℕ) → ((o : Option Opened) → Passing (go (p + size_at text p) o) → A) → (p + size_at text p ≡ limit text → A)
+      → (o : Option Opened) (a : Act) → Tells text p o a → Passing (walked cards text go p o a) → A
   unfolding walked
   walked-rest go p on last o (Refused code) w y = absurd y
   walked-rest go p on last o Opens w y = on _ y
   walked-rest go p on last o (Exposes r) w y = on _ y
-  walked-rest go p on last o (Loops t) w y = on Shut (after-closed p t o _ y)
+  walked-rest go p on last o (Loops t) w y = on None (after-closed p t o _ y)
   walked-rest go p on last o Waits w y = on o (after-paused p o _ y)
   walked-rest go p on last o (Calls m) w y = last w
   walked-rest go p on last o Ends w y = last w
 
   -- so each start of a text that passes is that of a command that is obeyed
-  walk-named : (f p : ℕ) (o : Opened) → Passing (walk cards text f p o) → (q : ℕ) → among q (starts text f p) ≡ true → Named q
+  walk-named : (f p : ℕ) (o : Option Opened) → Passing (walk cards text f p o) → (q : ℕ) → among q (starts text f p) ≡ true → Named q
   unfolding walk starts among
   walk-named zero p o y q h = absurd y
   walk-named (suc f) p o y q h =
@@ -120,13 +119,13 @@ module _ (E : Env) (text : List ℕ) where
   of-rounds q (passes k x is p c) y = tt
   of-rounds q (faults f reason) y = y
 
-  by-sound : (head : Header) → header_of text ≡ head → Passing (checked_by E text head) → Sound E.cards text
+  by-sound : (head : Result ℕ Fault) → header_of text ≡ head → Passing (checked_by E text head) → Sound E.cards text
   unfolding lists_used starts_of
-  by-sound (Repeats q) e y =
+  by-sound (Ok q) e y =
       let (least, most) = header-length text q e in
-      let named = walk-named E.cards text (length text) 4 Shut (of-rounds q (walk E.cards text (length text) 4 Shut) y) in
+      let named = walk-named E.cards text (length text) 4 None (of-rounds q (walk E.cards text (length text) 4 None) y) in
       record { least = least; most = most; lists = named-good E.cards text (starts_of text) named }
-  by-sound (Bad f) e y = absurd y
+  by-sound (Err f) e y = absurd y
 
   -- a sequence that passes is sound
   pub one-sound : Passing (check_one E text) → Sound E.cards text

@@ -8,15 +8,15 @@ use mathlib.Core.List.{List}
 use lib.Dec.{ltb, eqb}
 use lib.ListN.{length}
 use borrow.Author.Tests.{ne_eqb}
+use Rattle.std.specs.Prelude.{Option, Some, None}
 use Rattle.octets.specs.Bytes.{byte_at}
 use Rattle.octets.proofs.Bools.{either}
 use Rattle.memory.specs.declared.Format.{Format}
 use Rattle.sequence.specs.declared.Fault.{Fault}
-use Rattle.sequence.specs.declared.ListCard.{ListCard}
+use Rattle.sequence.specs.LineList.{ListCard}
 use Rattle.sequence.specs.Text.{fault, length_good, xor_good, header_rows, header_by, header_of, size_at, command_at}
 use Rattle.sequence.specs.Env.{Env}
 use Rattle.runner.specs.declared.Opened.{Opened}
-use Rattle.runner.specs.declared.Opened.TheVariants.{Shut, Open}
 use Rattle.runner.specs.declared.Act.{Act}
 use Rattle.runner.specs.declared.Act.TheVariants.{Refused, Opens, Exposes, Loops, Waits, Calls, Ends}
 use Rattle.runner.specs.Judge.{judge}
@@ -47,26 +47,26 @@ module _ (cards : ℕ → ListCard) (text : List ℕ) where
   right-front i (passes k x is p c) r = tt
   right-front i (faults f reason) r = r
 
-  right-paused : (p : ℕ) (o : Opened) (found : Finding) → Right found → Right (paused text p o found)
-  right-paused p Shut found r = right-front (Pause p) found r
-  right-paused p (Open at c left) found r = r
+  right-paused : (p : ℕ) (o : Option Opened) (found : Finding) → Right found → Right (paused text p o found)
+  right-paused p None found r = right-front (Pause p) found r
+  right-paused p (Some opened) found r = r
 
-  right-closed : (q t : ℕ) (o : Opened) (found : Finding) → Right found → Right (closed text q t o found)
-  right-closed q t Shut found r = r
-  right-closed q t (Open at c left) found r = right-front (scan text at.0 t q) found r
+  right-closed : (q t : ℕ) (o : Option Opened) (found : Finding) → Right found → Right (closed text q t o found)
+  right-closed q t None found r = r
+  right-closed q t (Some opened) found r = right-front (scan text opened.place.0 t q) found r
 
-  right-walked : (go : ℕ → Opened → Finding) → ((p : ℕ) (o : Opened) → Right (go p o)) → (p : ℕ) (o : Opened) (a : Act) → judge cards text p o ≡ a
+  right-walked : (go : ℕ → Option Opened → Finding) → ((p : ℕ) (o : Option Opened) → Right (go p o)) → (p : ℕ) (o : Option Opened) (a : Act) → judge cards text p o ≡ a
       → Right (walked cards text go p o a)
   unfolding walked
   right-walked go ih p o (Refused code) e = record { told = refl; refused = λ s. seven cards text p o (cc) }
   right-walked go ih p o Opens e = ih (p + size_at text p) _
   right-walked go ih p o (Exposes r) e = ih (p + size_at text p) _
-  right-walked go ih p o (Loops t) e = right-closed p t o (go (p + size_at text p) Shut) (ih _ Shut)
+  right-walked go ih p o (Loops t) e = right-closed p t o (go (p + size_at text p) None) (ih _ None)
   right-walked go ih p o Waits e = right-paused p o (go (p + size_at text p) o) (ih _ o)
   right-walked go ih p o (Calls m) e = tt
   right-walked go ih p o Ends e = tt
 
-  right-walk : (f p : ℕ) (o : Opened) → Right (walk cards text f p o)
+  right-walk : (f p : ℕ) (o : Option Opened) → Right (walk cards text f p o)
   unfolding walk
   right-walk zero p o = none 3 p (λ s. omega arith)
   right-walk (suc f) p o = right-walked (λ q u. walk cards text f q u) (right-walk f) p o (judge cards text p o) refl
@@ -83,7 +83,7 @@ module _ (E : Env) (text : List ℕ) where
   right-one =
       let two = none E.cards text 2 0 (λ s. omega arith) in
       let ten = none E.cards text 10 3 (λ s. omega arith) in
-      let rest = right-rounds E.cards text E.format (byte_at text 3) (walk E.cards text (length text) 4 Shut) (right-walk E.cards text (length text) 4 Shut) in
+      let rest = right-rounds E.cards text E.format (byte_at text 3) (walk E.cards text (length text) 4 None) (right-walk E.cards text (length text) 4 None) in
       either by (not (length_good text)) 2 _ two (either by (not (xor_good text)) 2 _ two (either by (eqb (byte_at text 3) 0) 10 0 ten rest))
     where
       by : ℕ → Type 0

@@ -5,15 +5,14 @@ use mathlib.Core.Path.{◌≡◌, refl, sym, ap, subst, ◌∙◌}
 use mathlib.Core.Bool.{Bool, true, false, ◌||◌, or-true, or-false, or_assoc, true≢false, false≢true}
 use mathlib.Core.List.{List, [], ◌∷◌}
 use mathlib.Core.Logic.{◌⊎◌, ⊎_elim}
-use lib.Dec.{eqb}
+use lib.Dec.{ltb, eqb}
 use lib.ListN.{length, get_or, set, take, drop, replicate, length-set, length-replicate, get_or-replicate, drop_of_length-le}
 use lib.Seq.{get_or-set_same, get_or-set_other, drop-cons, take_at}
-use borrow.Author.Tests.{eqb-true, eq-eqb}
+use borrow.Author.Tests.{eqb-true, eq-eqb, ltb-false, le-ltb}
+use Rattle.std.specs.Prelude.{Option, Some, option_and_then}
 use Rattle.octets.proofs.Bools.{by-test, or-either}
 use Rattle.memory.specs.declared.Format.{Format}
 use Rattle.memory.specs.declared.Place.{Place}
-use Rattle.memory.specs.declared.Placed.{Placed}
-use Rattle.memory.specs.declared.Placed.TheVariants.{At}
 use Rattle.memory.specs.Memory.{place_of, address_of, entry_of, tables_wrong}
 use Rattle.sequence.specs.Text.{command_at, size_at, is_run_raster}
 use Rattle.sequence.specs.Starts.{starts, starts_of, rasters_among, among}
@@ -28,7 +27,7 @@ use Rattle.survey.specs.Chain.{Told, check_of}
 use Rattle.survey.specs.Report.{padded, report_of}
 use Rattle.survey.specs.Frame.{lists_named, lists_used}
 use Rattle.survey.specs.Still.{lists_over, lowest_changed, standing_at, standing_by, still_of}
-use Rattle.survey.specs.Held.{RestOf}
+use Rattle.survey.specs.Held.{found_below, RestOf}
 use Rattle.survey.proofs.Passing.{Ended, check-given}
 use Rattle.survey.proofs.Laws.{placed_at, past_of}
 use Rattle.survey.proofs.Listing.{among_first, among_later, among-append, among-case}
@@ -110,7 +109,7 @@ module _ (text : List ℕ) where
         ∙ ap (λ (ns : List ℕ). get_or marks k false || among k ns) (sym (named-raster left p h s r)) ∙ m k l
 
     -- a turn of the code: at the place of a number, with the place past it
-    module _ (F : Format) (p : ℕ) (placed : Placed) (e : placed ≡ place_of F p) (at : Place) (g : placed ≡ At at) (next : ℕ) (o : next ≡ at.0 + size_at text at.0) where
+    module _ (F : Format) (p : ℕ) (placed : Option Place) (e : placed ≡ place_of F p) (at : Place) (g : placed ≡ Some at) (next : ℕ) (o : next ≡ at.0 + size_at text at.0) where
       pub marking-stop : (left : ℕ) (marks : List Bool) → next ≡ p → Marking left p marks → (k : ℕ) → k < 256 → get_or marks k false ≡ (get_or used k false || among k (lists_used text))
       marking-stop left marks same m = let q = past_of F p placed e text at next g o in marking-none left p marks (omega arith) m
 
@@ -173,6 +172,12 @@ module _ (F : Format) (seqs listed : List ℕ) where
       }
 
 -- ── what the check tells, held against the tables of now
+-- a number past both tables is no address
+past-both : (n : ℕ) → option_and_then address_of (found_below 0x075EC0 n) ≡ address_of n
+past-both n =
+    by-test (ltb n 0x075EC0) (λ t. let e : found_below 0x075EC0 n ≡ Some n = rw t in ap (option_and_then address_of) e)
+    (λ t. let h = ltb-false n 0x075EC0 t in rw (t, le-ltb n 0x070000 (omega arith)))
+
 -- the names in a report
 pub listed-names : (r : Report) (t : Told) → r ≡ report_of t → take r.count (drop 0 r.listed) ≡ t.names
 unfolding report_of padded
@@ -201,6 +206,8 @@ module _ (F : Format) (seqs lists seqs' lists' : List ℕ) (n : ℕ) where
     unfolding report_of
     passed-right y = (check-given F seqs lists n (subst Ended (ap (λ (x : Report). x.ending) told) y)).0
 
-    pub still-passed : (s : Standing) (a : ℕ) → Ended r.ending → s ≡ standing_at (address_of a) → a ≡ lowest_changed F seqs lists seqs' lists' (check_of F seqs lists n).names
-        → s ≡ still_of F seqs lists seqs' lists' n
-    still-passed s a y e f = e ∙ ap (λ (x : ℕ). standing_at (address_of x)) f ∙ ⊎_elim (still-by Finishes) (still-by Returns) y
+    pub still-passed : (s : Standing) (a : Option ℕ) → Ended r.ending → s ≡ standing_at (option_and_then address_of a)
+        → a ≡ found_below 0x075EC0 (lowest_changed F seqs lists seqs' lists' (check_of F seqs lists n).names) → s ≡ still_of F seqs lists seqs' lists' n
+    still-passed s a y e f =
+        e ∙ ap (λ (x : Option ℕ). standing_at (option_and_then address_of x)) f ∙ ap standing_at (past-both (lowest_changed F seqs lists seqs' lists' (check_of F seqs lists n).names))
+        ∙ ⊎_elim (still-by Finishes) (still-by Returns) y

@@ -6,8 +6,11 @@ use mathlib.Core.Path.{◌≡◌, refl, sym, ap, ◌∙◌, subst}
 use mathlib.Core.Bool.{Bool, true, false, cond}
 use lib.Dec.{ltb, eqb}
 use borrow.Author.Tests.{ltb-true, ltb-false, lt-ltb, le-ltb, eqb-true, eqb-false}
+use Rattle.std.specs.Prelude.{Some, None}
+use Rattle.std.proofs.lemmas.Option.{cond_some, none-some}
 use Rattle.octets.proofs.Bools.{by-test, choice}
 use Rattle.survey.specs.Still.{first_of}
+use Rattle.survey.specs.Held.{found_below}
 
 -- ── step by step
 module _ (test : ℕ → Bool) where
@@ -23,6 +26,26 @@ module _ (test : ℕ → Bool) where
   pub first_on : (at end : ℕ) → at < end → test at ≡ false → first_of test (end - at) at ≡ first_of test (end - (at + 1)) (at + 1)
   unfolding first_of
   first_on at end h t = let e : end - at ≡ suc (end - (at + 1)) = omega arith in rw (e, t)
+
+  -- and so the code has found it, or none
+  module _ (at end found : ℕ) (e : first_of test (end - at) at ≡ found) where
+    pub found-here : at < end → test at ≡ true → Some at ≡ found_below end found
+    found-here h t = rw (← e, first-here at end h t, lt-ltb at end h)
+
+    pub found-over : end ≤ at → None ≡ found_below end found
+    found-over h = rw (← e, first-over at end h, le-ltb at end h)
+
+-- where there is no value, the test does not hold
+pub cond-none : {A : Type 0} (t : Bool) (x : A) → cond t (Some x) None ≡ None → t ≡ false
+cond-none true x e = absurd (none-some x (sym e))
+cond-none false x e = refl
+
+-- what is found is below the end, and none is not
+pub below-some : (end found at : ℕ) → found_below end found ≡ Some at → (found < end) × (found ≡ at)
+below-some end found at e = let (t, s) = cond_some (ltb found end) found at e in (ltb-true found end t, s)
+
+pub below-none : (end found : ℕ) → found_below end found ≡ None → end ≤ found
+below-none end found e = ltb-false found end (cond-none (ltb found end) found e)
 
 -- among no numbers
 pub first-none : (test : ℕ → Bool) (at : ℕ) → first_of test 0 at ≡ at
@@ -54,11 +77,6 @@ first-shift test other base (suc k) at h =
     rw (here, e)
     (ap (cond (other at) (base + at)) (first-shift test other base k (at + 1) (λ i l. let f : at + 1 + i ≡ at + suc i = omega arith in rw f (h (suc i) (omega arith))))
     ∙ by-test (other at) (λ t. rw t) (λ t. rw t))
-
--- two tests that come to the same find the same
-pub first-same : (test other : ℕ → Bool) (k at : ℕ) → ((i : ℕ) → i < k → test (at + i) ≡ other (at + i)) → first_of test k at ≡ first_of other k at
-first-same test other k at h =
-    rw (zero-add at, zero-add (first_of other k at)) at (first-shift test other 0 k at (λ i l. rw (zero-add (at + i)) (h i l)))
 
 -- numbers of which it does not hold are passed over
 pub first-skip : (test : ℕ → Bool) (k rest at : ℕ) → ((i : ℕ) → i < k → test (at + i) ≡ false) → first_of test (k + rest) at ≡ first_of test rest (at + k)

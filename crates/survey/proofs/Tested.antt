@@ -7,23 +7,22 @@ use mathlib.Core.List.{List, ◌++◌}
 use lib.Dec.{eqb}
 use lib.ListN.{length}
 use borrow.Author.Tests.{eqb-true, eq-eqb}
+use Rattle.std.specs.Prelude.{Option, None, Result, Ok, Err}
 use Rattle.octets.proofs.Bools.{by-test}
 use Rattle.memory.specs.declared.Format.{Format}
 use Rattle.memory.specs.Memory.{place_at}
-use Rattle.sequence.specs.declared.ListCard.{ListCard}
-use Rattle.sequence.specs.declared.Header.{Header}
-use Rattle.sequence.specs.declared.Header.TheVariants.{Repeats, Bad}
+use Rattle.sequence.specs.declared.Fault.{Fault}
+use Rattle.sequence.specs.LineList.{ListCard}
 use Rattle.sequence.specs.Text.{size_at, header_of}
 use Rattle.sequence.specs.Starts.{among}
 use Rattle.sequence.specs.Raster.{raster_at}
 use Rattle.runner.specs.declared.Opened.{Opened}
-use Rattle.runner.specs.declared.Opened.TheVariants.{Shut, Open}
 use Rattle.runner.specs.declared.Act.{Act}
 use Rattle.runner.specs.declared.Act.TheVariants.{Refused, Opens, Exposes, Loops, Waits, Calls, Ends}
 use Rattle.runner.specs.Judge.{tests_list, judge}
 use Rattle.runner.proofs.Exactly.{seven}
 use Rattle.runner.proofs.Tested.{tests-run, tested-judge, tests}
-use Rattle.survey.specs.Walk.{Finding, closed, paused, one_more, walked, walk, rounds, checked_by, check_one}
+use Rattle.survey.specs.Walk.{opened_at, Finding, closed, paused, one_more, walked, walk, rounds, checked_by, check_one}
 use Rattle.survey.proofs.Listing.{among-append}
 use Rattle.survey.specs.Tested.{tested_at, tested_past, tested_from, tested_by, tested_in}
 
@@ -38,28 +37,28 @@ module _ (cards cards' : ℕ → ListCard) (text : List ℕ) where
   abbrev SameFor : List ℕ → Type 0
   SameFor lists = (k : ℕ) → k ≤ 47 → among k lists ≡ true → cards' k ≡ cards k
 
-  abbrev Both : ℕ → ℕ → Opened → Type 0
+  abbrev Both : ℕ → ℕ → Option Opened → Type 0
   Both f p o = (walk cards' text f p o ≡ walk cards text f p o) × (tested_from cards' text f p o ≡ tested_from cards text f p o)
 
-  module _ (f p : ℕ) (ih : (q : ℕ) (o : Opened) → SameFor (tested_from cards text f q o) → Both f q o) where
-    abbrev go : (ℕ → ListCard) → ℕ → Opened → Finding
+  module _ (f p : ℕ) (ih : (q : ℕ) (o : Option Opened) → SameFor (tested_from cards text f q o) → Both f q o) where
+    abbrev go : (ℕ → ListCard) → ℕ → Option Opened → Finding
     go known q o = walk known text f q o
 
-    abbrev on : (ℕ → ListCard) → ℕ → Opened → List ℕ
+    abbrev on : (ℕ → ListCard) → ℕ → Option Opened → List ℕ
     on known q o = tested_from known text f q o
 
-    acts-same : (o : Opened) (x : Act) → (x ≡ Refused 7 → cards' (raster_at text p).list ≡ cards (raster_at text p).list) → SameFor (tested_past text (on cards) p o x)
+    acts-same : (o : Option Opened) (x : Act) → (x ≡ Refused 7 → cards' (raster_at text p).list ≡ cards (raster_at text p).list) → SameFor (tested_past text (on cards) p o x)
         → (walked cards' text (go cards') p o x ≡ walked cards text (go cards) p o x) × (tested_past text (on cards') p o x ≡ tested_past text (on cards) p o x)
     unfolding walked tested_past
     acts-same o (Refused code) s h = (by-test (eqb code 7) (λ e. rw (s (ap Refused (eqb-true code 7 e)))) (λ e. rw e), refl)
-    acts-same o Opens s h = ih (p + size_at text p) (Open (place_at p) 0 0) h
+    acts-same o Opens s h = ih (p + size_at text p) (opened_at (place_at p)) h
     acts-same o (Exposes r) s h = ih (p + size_at text p) (one_more o) h
-    acts-same o (Loops t) s h = let (w, u) = ih (p + size_at text p) Shut h in (ap (closed text p t o) w, u)
+    acts-same o (Loops t) s h = let (w, u) = ih (p + size_at text p) None h in (ap (closed text p t o) w, u)
     acts-same o Waits s h = let (w, u) = ih (p + size_at text p) o h in (ap (paused text p o) w, u)
     acts-same o (Calls m) s h = (refl, refl)
     acts-same o Ends s h = (refl, refl)
 
-  both-same : (f p : ℕ) (o : Opened) → SameFor (tested_from cards text f p o) → Both f p o
+  both-same : (f p : ℕ) (o : Option Opened) → SameFor (tested_from cards text f p o) → Both f p o
   unfolding walk tested_from among
   both-same zero p o h = (refl, refl)
   both-same (suc f) p o h =
@@ -77,10 +76,10 @@ module _ (cards cards' : ℕ → ListCard) (text : List ℕ) where
       tests-seven s = (rw s at (tests text p o cards)) refl (seven cards text p o s).0
 
   module _ (F : Format) where
-    by-same : (head : Header) → SameFor (tested_by cards text head)
+    by-same : (head : Result ℕ Fault) → SameFor (tested_by cards text head)
         → (checked_by (record { format = F; cards = cards' }) text head ≡ checked_by (record { format = F; cards = cards }) text head) × (tested_by cards' text head ≡ tested_by cards text head)
-    by-same (Repeats q) h = let (w, u) = both-same (length text) 4 Shut h in (ap (rounds F q) w, u)
-    by-same (Bad f) h = (refl, refl)
+    by-same (Ok q) h = let (w, u) = both-same (length text) 4 None h in (ap (rounds F q) w, u)
+    by-same (Err f) h = (refl, refl)
 
     -- the check of one sequence, and the lists that it tests, where those have the same cards
     pub tested-same : SameFor (tested_in cards text)

@@ -7,22 +7,21 @@ use mathlib.Core.List.{List, [], ◌∷◌}
 use lib.Dec.{ltb, eqb}
 use lib.ListN.{length, take, drop, length-take, get_or-eq_default}
 use native.Mathlib.Decide.{dec_lt}
+use Rattle.std.specs.Prelude.{Option, Some, None, Result, Ok, Err}
 use Rattle.octets.specs.Bytes.{byte_at}
 use Rattle.octets.specs.Rows.{first_code}
 use Rattle.octets.proofs.Bools.{choice}
 use Rattle.memory.specs.declared.Format.{Format}
 use Rattle.memory.specs.Memory.{place_at, entry_of}
 use Rattle.memory.proofs.Laws.{Fair, part-byte, entry-short}
-use Rattle.sequence.specs.declared.Header.{Header}
-use Rattle.sequence.specs.declared.Header.TheVariants.{Repeats, Bad}
-use Rattle.sequence.specs.declared.ListCard.{ListCard}
+use Rattle.sequence.specs.declared.Fault.{Fault}
+use Rattle.sequence.specs.LineList.{ListCard}
 use Rattle.sequence.specs.declared.RasterWords.{RasterWords}
 use Rattle.sequence.specs.Text.{header_rows, header_of, size_at}
 use Rattle.sequence.specs.Raster.{raster_at}
 use Rattle.sequence.specs.Starts.{among}
 use Rattle.sequence.specs.Env.{Env, env_of}
 use Rattle.runner.specs.declared.Opened.{Opened}
-use Rattle.runner.specs.declared.Opened.TheVariants.{Shut, Open}
 use Rattle.runner.specs.declared.Act.{Act}
 use Rattle.runner.specs.declared.Act.TheVariants.{Refused, Opens, Exposes, Loops, Waits, Calls, Ends}
 use Rattle.runner.specs.Judge.{judge}
@@ -32,15 +31,13 @@ use Rattle.survey.specs.declared.Closing.TheVariants.{Terminates, CallsOn}
 use Rattle.survey.specs.declared.Ending.{Ending}
 use Rattle.survey.specs.declared.Ending.TheVariants.{Unlisted, Finishes, Returns, Faults}
 use Rattle.survey.specs.Items.{raster_steps, raster_exposures, item_steps, item_exposures}
-use Rattle.survey.specs.Walk.{Finding, passes, faults, in_front, commands, scan, closed, paused, one_more, walked, walk, rounds, checked_by, check_one, finding_of}
+use Rattle.survey.specs.Walk.{opened_at, Finding, passes, faults, in_front, commands, scan, closed, paused, one_more, walked, walk, rounds, checked_by, check_one, finding_of}
 use Rattle.survey.specs.Chain.{Told, total, onward, follow, chain_of, check_of}
+pub use Rattle.survey.specs.Held.{Octets}
 use Rattle.survey.proofs.Names.{of-check}
 use Rattle.survey.proofs.Counts.{commands-most}
 
 -- ── bytes
-abbrev pub Octets : List ℕ → Type 0
-Octets s = (k : ℕ) → byte_at s k < 256
-
 pub part-octets : (s : List ℕ) (at size : ℕ) → Octets s → Octets (take size (drop at s))
 part-octets s at size o k = near (dec_lt k size)
   where
@@ -101,35 +98,35 @@ small-front text i a b h g (passes k x is p c) s = (omega arith, omega arith)
 small-front text i a b h g (faults e reason) s = tt
 
 module _ (cards : ℕ → ListCard) (text : List ℕ) (oct : Octets text) (short : length text ≤ 511) where
-  module _ (f : ℕ) (go : ℕ → Opened → Finding) (ih : (p : ℕ) (o : Opened) → Small (f * 2 ^ 37) (go p o)) where
+  module _ (f : ℕ) (go : ℕ → Option Opened → Finding) (ih : (p : ℕ) (o : Option Opened) → Small (f * 2 ^ 37) (go p o)) where
     more : (found : Finding) → Small (f * 2 ^ 37) found → Small (suc f * 2 ^ 37) found
     more found s = let l : f * 2 ^ 37 ≤ suc f * 2 ^ 37 = omega arith in small-more l found s
 
-    small-closed : (p t : ℕ) (o : Opened) (found : Finding) → Small (f * 2 ^ 37) found → Small (suc f * 2 ^ 37) (closed text p t o found)
-    small-closed p t Shut found s = more found s
-    small-closed p t (Open r c left) found s =
-        let b = commands-most text (r.0 + size_at text r.0) t in
+    small-closed : (p t : ℕ) (o : Option Opened) (found : Finding) → Small (f * 2 ^ 37) found → Small (suc f * 2 ^ 37) (closed text p t o found)
+    small-closed p t None found s = more found s
+    small-closed p t (Some opened) found s =
+        let b = commands-most text (opened.place.0 + size_at text opened.place.0) t in
         let d = commands-most text t p in
-        let w = narrow text r.0 oct in
-        let k = steps-most (raster_at text r.0) w (commands text (r.0 + size_at text r.0) t) (commands text t p) (omega arith) (omega arith) in
-        let x = exposures-most (raster_at text r.0) w in
-        small-front text (scan text r.0 t p) (f * 2 ^ 37) (suc f * 2 ^ 37) (omega arith) (omega arith) found s
+        let w = narrow text opened.place.0 oct in
+        let k = steps-most (raster_at text opened.place.0) w (commands text (opened.place.0 + size_at text opened.place.0) t) (commands text t p) (omega arith) (omega arith) in
+        let x = exposures-most (raster_at text opened.place.0) w in
+        small-front text (scan text opened.place.0 t p) (f * 2 ^ 37) (suc f * 2 ^ 37) (omega arith) (omega arith) found s
 
-    small-paused : (p : ℕ) (o : Opened) (found : Finding) → Small (f * 2 ^ 37) found → Small (suc f * 2 ^ 37) (paused text p o found)
-    small-paused p Shut found s = small-front text (Pause p) (f * 2 ^ 37) (suc f * 2 ^ 37) (omega arith) (omega arith) found s
-    small-paused p (Open r c left) found s = more found s
+    small-paused : (p : ℕ) (o : Option Opened) (found : Finding) → Small (f * 2 ^ 37) found → Small (suc f * 2 ^ 37) (paused text p o found)
+    small-paused p None found s = small-front text (Pause p) (f * 2 ^ 37) (suc f * 2 ^ 37) (omega arith) (omega arith) found s
+    small-paused p (Some opened) found s = more found s
 
-    small-walked : (p : ℕ) (o : Opened) (a : Act) → Small (suc f * 2 ^ 37) (walked cards text go p o a)
+    small-walked : (p : ℕ) (o : Option Opened) (a : Act) → Small (suc f * 2 ^ 37) (walked cards text go p o a)
     unfolding walked
     small-walked p o (Refused code) = tt
-    small-walked p o Opens = more (go _ _) (ih (p + size_at text p) (Open (place_at p) 0 0))
+    small-walked p o Opens = more (go _ _) (ih (p + size_at text p) (opened_at (place_at p)))
     small-walked p o (Exposes r) = more (go _ _) (ih (p + size_at text p) (one_more o))
-    small-walked p o (Loops t) = small-closed p t o (go (p + size_at text p) Shut) (ih _ Shut)
+    small-walked p o (Loops t) = small-closed p t o (go (p + size_at text p) None) (ih _ None)
     small-walked p o Waits = small-paused p o (go (p + size_at text p) o) (ih _ o)
     small-walked p o (Calls m) = (omega arith, zero-le)
     small-walked p o Ends = (omega arith, zero-le)
 
-  pub walk-small : (f p : ℕ) (o : Opened) → Small (f * 2 ^ 37) (walk cards text f p o)
+  pub walk-small : (f p : ℕ) (o : Option Opened) → Small (f * 2 ^ 37) (walk cards text f p o)
   unfolding walk
   walk-small zero p o = tt
   walk-small (suc f) p o = small-walked f (λ q u. walk cards text f q u) (walk-small f) p o (judge cards text p o)
@@ -146,21 +143,21 @@ small-rounds F q l (passes k x is p (CallsOn m)) s =
 small-rounds F q l (faults g reason) s = tt
 
 -- a sequence's repeats are a byte
-abbrev FewRounds : Header → Type 0
-FewRounds (Repeats q) = q ≤ 255
-FewRounds (Bad f) = Unit {0}
+abbrev FewRounds : Result ℕ Fault → Type 0
+FewRounds (Ok q) = q ≤ 255
+FewRounds (Err f) = Unit {0}
 
 few-rounds : (text : List ℕ) → Octets text → FewRounds (header_of text)
 unfolding header_of
 few-rounds text o =
-    choice FewRounds (eqb (first_code (header_rows text)) 0) (Repeats (byte_at text 3)) _ (λ _. let h = o 3 in omega arith) (λ _. tt)
+    choice FewRounds (eqb (first_code (header_rows text)) 0) (Ok (byte_at text 3)) _ (λ _. let h = o 3 in omega arith) (λ _. tt)
 
 module _ (E : Env) (text : List ℕ) (oct : Octets text) (short : length text ≤ 511) where
-  small_by : (h : Header) → FewRounds h → Small (2 ^ 54) (checked_by E text h)
-  small_by (Repeats q) l =
-      let w = walk E.cards text (length text) 4 Shut in
-      small-rounds E.format q l w (small-more (let m : length text * 2 ^ 37 ≤ 2 ^ 46 = omega arith in m) w (walk-small E.cards text oct short (length text) 4 Shut))
-  small_by (Bad f) l = tt
+  small_by : (h : Result ℕ Fault) → FewRounds h → Small (2 ^ 54) (checked_by E text h)
+  small_by (Ok q) l =
+      let w = walk E.cards text (length text) 4 None in
+      small-rounds E.format q l w (small-more (let m : length text * 2 ^ 37 ≤ 2 ^ 46 = omega arith in m) w (walk-small E.cards text oct short (length text) 4 None))
+  small_by (Err f) l = tt
 
   pub one-small : Small (2 ^ 54) (check_one E text)
   unfolding check_one

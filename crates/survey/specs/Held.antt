@@ -1,5 +1,6 @@
 -- For the proofs of the code, what it holds on its way: one sequence's findings without items, and the chain in arrays of numbers and marks.
-use Rattle.std.specs.Prelude.{ℕ, zero, suc, ◌+◌, ◌*◌, ◌-◌, ◌≤◌, ◌<◌, ◌^◌, ◌≡◌, Bool, true, false, cond, List, [], ◌∷◌, ◌++◌, reverse, ltb, eqb, length, get_or, replicate}
+use Rattle.std.specs.Prelude.{ℕ, zero, suc, ◌+◌, ◌*◌, ◌-◌, ◌≤◌, ◌<◌, ◌^◌, ◌≡◌, Bool, true, false, cond, List, [], ◌∷◌, ◌++◌, reverse, ltb, eqb, length, get_or, replicate, Ok, Err, Option, Some, None}
+use Rattle.octets.specs.Bytes.{byte_at}
 use Rattle.memory.specs.declared.Format.{Format}
 use Rattle.memory.specs.declared.Place.{Place}
 use Rattle.sequence.specs.declared.Command.TheVariants.{RunRaster, LoopBack}
@@ -7,13 +8,11 @@ use Rattle.sequence.specs.Text.{row_of, fault, size_at}
 use Rattle.sequence.specs.Starts.{among}
 use Rattle.sequence.specs.Env.{Env, text_of}
 use Rattle.runner.specs.declared.Opened.{Opened}
-use Rattle.runner.specs.declared.Opened.TheVariants.{Shut, Open}
 use Rattle.survey.specs.declared.Item.{Item}
 use Rattle.survey.specs.declared.Item.TheVariants.{Scan}
 use Rattle.survey.specs.declared.Closing.{Closing}
 use Rattle.survey.specs.declared.Closing.TheVariants.{Terminates, CallsOn}
-use Rattle.survey.specs.declared.Walked.{Walked}
-use Rattle.survey.specs.declared.Walked.TheVariants.{Faulty, Closed}
+use Rattle.survey.specs.declared.Closed.{Closed}
 use Rattle.survey.specs.declared.Ending.{Ending}
 use Rattle.survey.specs.declared.Ending.TheVariants.{Unlisted, Finishes, Returns, Faults}
 use Rattle.survey.specs.declared.Round.{Round}
@@ -22,15 +21,23 @@ use Rattle.survey.specs.declared.Checked.{Checked}
 use Rattle.survey.specs.declared.Report.{Report}
 use Rattle.survey.specs.declared.Rest.{Rest}
 use Rattle.survey.specs.Items.{item_steps, item_exposures}
-use Rattle.survey.specs.Walk.{reason_for}
+use Rattle.survey.specs.Walk.{opened_at, reason_for}
 use Rattle.survey.specs.Tested.{has_list}
 use Rattle.survey.specs.Chain.{Told, told, total}
-use Rattle.survey.specs.Report.{padded}
+use Rattle.survey.specs.Report.{Walked, closed_at, padded}
 use Rattle.survey.specs.Still.{lists_over}
+
+-- each of these numbers is a byte
+abbrev pub Octets : List ℕ → Type 0
+Octets s = (k : ℕ) → byte_at s k < 256
+
+-- the number that a search has found, if it is below the search's end
+abbrev pub found_below : ℕ → ℕ → Option ℕ
+found_below end found = cond (ltb found end) (Some found) None
 
 -- ── a round
 -- past a command of this size, with this raster open after it, and so many steps and exposures more
-abbrev pub moved : ℕ → Opened → ℕ → ℕ → Round → Round
+abbrev pub moved : ℕ → Option Opened → ℕ → ℕ → Round → Round
 moved size held k x r = record { place = r.place + size; held = held; steps = r.steps + k; exposures = r.exposures + x; tested = r.tested }
 
 -- the number of a set of line lists, with line list k
@@ -40,7 +47,7 @@ with_list bits k = cond (has_list bits k) bits (bits + 2 ^ (47 - k))
 -- past the run raster at a place, which names this line list
 abbrev pub opened_in : Place → ℕ → Round → Round
 opened_in at k r =
-    record { place = r.place + (row_of RunRaster).size; held = Open at 0 0; steps = r.steps; exposures = r.exposures; tested = with_list r.tested k }
+    record { place = r.place + (row_of RunRaster).size; held = opened_at at; steps = r.steps; exposures = r.exposures; tested = with_list r.tested k }
 
 -- no number of it passes its width
 pub record RoomFor (size k x : ℕ) (r : Round) : Type 0 where
@@ -48,14 +55,14 @@ pub record RoomFor (size k x : ℕ) (r : Round) : Type 0 where
   pub steps : r.steps + k < 2 ^ 64
   pub exposures : r.exposures + x < 2 ^ 64
 
-abbrev pub exposures_in : Opened → ℕ
-exposures_in Shut = 0
-exposures_in (Open r c k) = c
+abbrev pub exposures_in : Option Opened → ℕ
+exposures_in None = 0
+exposures_in (Some opened) = opened.count
 
 -- the steps of a delay: one of its own where no raster is open
-abbrev pub pause_in : Opened → ℕ
-pause_in Shut = 1
-pause_in (Open r c k) = 0
+abbrev pub pause_in : Option Opened → ℕ
+pause_in None = 1
+pause_in (Some opened) = 0
 
 -- how many commands stand from p up to t, at most f of them
 unfoldable pub between : List ℕ → ℕ → ℕ → ℕ → ℕ
@@ -68,22 +75,25 @@ counted_scan text r t q = Scan r t q (between text t (r + size_at text r) t) (be
 
 -- past a loop back to t: the open raster is an item of the round
 abbrev pub scanned_in : List ℕ → Item → Round → Round
-scanned_in text i r = moved (row_of (LoopBack 0)).size Shut (item_steps text i) (item_exposures text i) r
+scanned_in text i r = moved (row_of (LoopBack 0)).size None (item_steps text i) (item_exposures text i) r
 
-abbrev pub looped_in : List ℕ → ℕ → Opened → Round → Round
-looped_in text t Shut r = moved (row_of (LoopBack t)).size Shut 0 0 r
-looped_in text t (Open at c k) r = scanned_in text (counted_scan text at.0 t r.place) r
+abbrev pub looped_in : List ℕ → ℕ → Option Opened → Round → Round
+looped_in text t None r = moved (row_of (LoopBack t)).size None 0 0 r
+looped_in text t (Some opened) r = scanned_in text (counted_scan text opened.place.0 t r.place) r
 
 -- ── all rounds
+abbrev pub rounds_by : Format → ℕ → Closed → Closing → Walked
+rounds_by F q c Terminates = closed_at c.place Terminates (1 + q * c.steps) (q * c.exposures)
+rounds_by F q c (CallsOn m) = cond (ltb F.last m) (Err (fault 4 c.place)) (closed_at c.place (CallsOn m) (1 + q * c.steps) (q * c.exposures))
+
 abbrev pub all_rounds : Format → ℕ → Walked → Walked
-all_rounds F q (Faulty f) = Faulty f
-all_rounds F q (Closed p Terminates steps exposures) = Closed p Terminates (1 + q * steps) (q * exposures)
-all_rounds F q (Closed p (CallsOn m) steps exposures) = cond (ltb F.last m) (Faulty (fault 4 p)) (Closed p (CallsOn m) (1 + q * steps) (q * exposures))
+all_rounds F q (Err f) = Err f
+all_rounds F q (Ok c) = rounds_by F q c c.closing
 
 -- totals of at most this much
 abbrev pub AtMost : ℕ → Walked → Type 0
-AtMost most (Faulty f) = Unit {0}
-AtMost most (Closed p c steps exposures) = (steps ≤ most) × (exposures ≤ most)
+AtMost most (Err f) = Unit {0}
+AtMost most (Ok c) = (c.steps ≤ most) × (c.exposures ≤ most)
 
 -- ── the chain
 -- how many marks are not set
@@ -141,15 +151,19 @@ reasoned E seqs Returns = Returns
 reasoned E seqs (Faults n f r) = Faults n f (reason_for E.cards (text_of E seqs n) f)
 
 -- what is reported of a chain and its ending
-unfoldable pub reported : Env → List ℕ → Checked → Report
-reported E seqs c =
+abbrev pub reported_as : Chain → Ending → Report
+reported_as chain ending =
     record {
-      ending = reasoned E seqs c.ending;
-      listed = c.chain.listed;
-      count = c.chain.count;
-      steps = total (reasoned E seqs c.ending) c.chain.steps 0;
-      exposures = total (reasoned E seqs c.ending) c.chain.exposures 0;
+      ending = ending;
+      listed = chain.listed;
+      count = chain.count;
+      steps = total ending chain.steps 0;
+      exposures = total ending chain.exposures 0;
     }
+
+-- the same with a fault's reason
+unfoldable pub reported : Env → List ℕ → Checked → Report
+reported E seqs c = reported_as c.chain (reasoned E seqs c.ending)
 
 -- ── what a pass rests on
 -- these sequences and the line lists that they use are marked

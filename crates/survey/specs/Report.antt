@@ -1,18 +1,19 @@
 -- The check's answer as the code holds it: the chain in an array of 128 numbers, and the paper's number and values for each ending.
-use Rattle.std.specs.Prelude.{ℕ, ◌-◌, cond, List, ◌++◌, length, take, replicate}
+use Rattle.std.specs.Prelude.{ℕ, ◌-◌, cond, List, ◌++◌, length, take, replicate, Result, Ok, Err, None}
 use Rattle.memory.specs.declared.Format.{Format}
 use Rattle.memory.specs.Memory.{fills}
+use Rattle.sequence.specs.declared.Fault.{Fault}
 use Rattle.sequence.specs.declared.ReasonNumbers.{ReasonNumbers}
 use Rattle.sequence.specs.Text.{fault}
 use Rattle.sequence.specs.LineList.{reason_as, bad_shown}
-use Rattle.sequence.specs.declared.ListCard.{ListCard}
+use Rattle.sequence.specs.LineList.{ListCard}
 use Rattle.sequence.specs.Env.{Env, env_of}
 use Rattle.survey.specs.declared.Ending.{Ending}
 use Rattle.survey.specs.declared.Ending.TheVariants.{Unlisted, Finishes, Returns, Faults}
 use Rattle.survey.specs.declared.Reason.{Reason}
 use Rattle.survey.specs.declared.Reason.TheVariants.{None, OfList, Mark}
-use Rattle.survey.specs.declared.Walked.{Walked}
-use Rattle.survey.specs.declared.Walked.TheVariants.{Faulty, Closed}
+use Rattle.survey.specs.declared.Closed.{Closed}
+use Rattle.survey.specs.declared.Closing.{Closing}
 use Rattle.survey.specs.declared.Alone.{Alone}
 use Rattle.survey.specs.declared.Report.{Report}
 use Rattle.survey.specs.Walk.{Finding, passes, faults, check_one}
@@ -54,14 +55,21 @@ padded names = names ++ replicate (128 - length names) 0
 unfoldable pub report_of : Told → Report
 report_of t = record { ending = t.ending; listed = padded t.names; count = length t.names; steps = t.steps; exposures = t.exposures }
 
+-- how a sequence closes, or its fault
+abbrev pub Walked : Type 0
+Walked = Result Closed Fault
+
+abbrev pub closed_at : ℕ → Closing → ℕ → ℕ → Walked
+closed_at place closing steps exposures = Ok (record { place = place; closing = closing; steps = steps; exposures = exposures })
+
 -- what one sequence's text comes to, without the items and a fault's reason
 abbrev pub walked_of : Finding → Walked
-walked_of (passes k x is p c) = Closed p c k x
-walked_of (faults f reason) = Faulty f
+walked_of (passes k x is p c) = closed_at p c k x
+walked_of (faults f reason) = Err f
 
 -- one sequence's text, taken alone, of at most an entry's bytes; "an unknown kind is 16"
 unfoldable pub check_alone : Format → List ℕ → List ℕ → Walked
-check_alone F lists text = cond (fills F) (walked_of (check_one (env_of F lists) (take F.size text))) (Faulty (fault 16 0))
+check_alone F lists text = cond (fills F) (walked_of (check_one (env_of F lists) (take F.size text))) (Err (fault 16 0))
 
 -- a fault's reason
 abbrev pub reason_found : Finding → Reason
@@ -74,4 +82,4 @@ alone_in E text = record { found = walked_of (check_one E text); reason = reason
 
 unfoldable pub alone_of : Format → (ℕ → ListCard) → List ℕ → Alone
 alone_of F cards text =
-    cond (fills F) (alone_in (record { format = F; cards = cards }) (take F.size text)) (record { found = Faulty (fault 16 0); reason = None; tested = 0 })
+    cond (fills F) (alone_in (record { format = F; cards = cards }) (take F.size text)) (record { found = Err (fault 16 0); reason = None; tested = 0 })

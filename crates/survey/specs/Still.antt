@@ -1,9 +1,8 @@
 -- Whether a pass still stands: what it rests on are the bytes of the listed sequences, and of the line lists that those use, within their lengths.
-use Rattle.std.specs.Prelude.{ℕ, zero, suc, ◌+◌, ◌*◌, ◌-◌, ◌/◌, ◌%◌, Bool, cond, not, ◌&&◌, List, [], ◌∷◌, ◌++◌, ltb, eqb}
+use Rattle.std.specs.Prelude.{ℕ, zero, suc, ◌+◌, ◌*◌, ◌-◌, ◌/◌, ◌%◌, Bool, cond, not, ◌&&◌, List, [], ◌∷◌, ◌++◌, ltb, eqb, Option, Some, None}
 use Rattle.octets.specs.Bytes.{byte_at}
+use Rattle.memory.specs.declared.Address.{Address}
 use Rattle.memory.specs.declared.Format.{Format}
-use Rattle.memory.specs.declared.Addressed.{Addressed}
-use Rattle.memory.specs.declared.Addressed.TheVariants.{Known, Nowhere}
 use Rattle.memory.specs.Memory.{entry_of, tables_wrong, address_of}
 use Rattle.sequence.specs.Starts.{among}
 use Rattle.survey.specs.declared.Ending.{Ending}
@@ -46,9 +45,9 @@ abbrev pub lowest_changed : Format → List ℕ → List ℕ → List ℕ → Li
 lowest_changed F seqs lists seqs' lists' names = first_of (changed_at F seqs lists seqs' lists' names) 24256 0x070000
 
 -- that number is no address, and nothing has changed
-abbrev pub standing_at : Addressed → Standing
-standing_at (Known a) = Changed a
-standing_at Nowhere = Same
+abbrev pub standing_at : Option Address → Standing
+standing_at (Some a) = Changed a
+standing_at None = Same
 
 -- by number and value: 0 there was no pass, 1 it stands, 2 it does not, and the lowest address
 pub record StandingShown : Type 0 where

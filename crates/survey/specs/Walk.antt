@@ -1,18 +1,15 @@
 -- The check of one sequence: the interpreter's rules applied to its text in text order, with no run.
-use Rattle.std.specs.Prelude.{ℕ, zero, suc, ◌+◌, ◌*◌, Bool, cond, ◌&&◌, List, [], ◌∷◌, ltb, leb, eqb, length}
+use Rattle.std.specs.Prelude.{ℕ, zero, suc, ◌+◌, ◌*◌, Bool, cond, ◌&&◌, List, [], ◌∷◌, ltb, leb, eqb, length, Option, Some, None, Result, Ok, Err}
 use Rattle.memory.specs.declared.Format.{Format}
+use Rattle.memory.specs.declared.Place.{Place}
 use Rattle.memory.specs.Memory.{place_at}
 use Rattle.sequence.specs.declared.Fault.{Fault}
-use Rattle.sequence.specs.declared.ListCard.{ListCard}
-use Rattle.sequence.specs.declared.ListCard.TheVariants.{Good, Bad}
-use Rattle.sequence.specs.declared.Header.{Header}
-use Rattle.sequence.specs.declared.Header.TheVariants.{Repeats, Bad}
+use Rattle.sequence.specs.LineList.{ListCard}
 use Rattle.sequence.specs.Text.{fault, size_at, header_of}
 use Rattle.sequence.specs.Starts.{starts_of}
 use Rattle.sequence.specs.Raster.{raster_at}
 use Rattle.sequence.specs.Env.{Env, text_of}
 use Rattle.runner.specs.declared.Opened.{Opened}
-use Rattle.runner.specs.declared.Opened.TheVariants.{Shut, Open}
 use Rattle.runner.specs.declared.Act.{Act}
 use Rattle.runner.specs.declared.Act.TheVariants.{Refused, Opens, Exposes, Loops, Waits, Calls, Ends}
 use Rattle.runner.specs.Judge.{judge}
@@ -47,42 +44,46 @@ commands text a b = count (λ p. leb a p && ltb p b) (starts_of text)
 abbrev pub scan : List ℕ → ℕ → ℕ → ℕ → Item
 scan text r t q = Scan r t q (commands text (r + size_at text r) t) (commands text t q)
 
+-- the raster at a place, opened
+abbrev pub opened_at : Place → Option Opened
+opened_at at = Some (record { place = at; count = 0; run = 0 })
+
 -- the open raster after one exposure more
-abbrev pub one_more : Opened → Opened
-one_more Shut = Shut
-one_more (Open r c k) = Open r (c + 1) k
+abbrev pub one_more : Option Opened → Option Opened
+one_more None = None
+one_more (Some opened) = Some (record opened { count = opened.count + 1 })
 
 -- a delay outside rasters is an item; in a raster it is one of the raster's commands
-abbrev pub paused : List ℕ → ℕ → Opened → Finding → Finding
-paused text p Shut found = in_front text (Pause p) found
-paused text p (Open r c k) found = found
+abbrev pub paused : List ℕ → ℕ → Option Opened → Finding → Finding
+paused text p None found = in_front text (Pause p) found
+paused text p (Some opened) found = found
 
 -- the loop back at q to t closes the open raster
-abbrev pub closed : List ℕ → ℕ → ℕ → Opened → Finding → Finding
-closed text q t Shut found = found
-closed text q t (Open r c k) found = in_front text (scan text r.0 t q) found
+abbrev pub closed : List ℕ → ℕ → ℕ → Option Opened → Finding → Finding
+closed text q t None found = found
+closed text q t (Some opened) found = in_front text (scan text opened.place.0 t q) found
 
 -- "the table check .. show[s] the reason": of a 7 what the line list test answers for the list that the run raster at its place names;
 -- where that is good, a mark is missing
 abbrev pub reason_in : ListCard → Reason
-reason_in (Good marks) = Mark
-reason_in (Bad bad) = OfList bad
+reason_in (Ok marks) = Mark
+reason_in (Err bad) = OfList bad
 
 abbrev pub reason_for : (ℕ → ListCard) → List ℕ → Fault → Reason
 reason_for cards text f = cond (eqb f.code 7) (reason_in (cards (raster_at text f.place).list)) None
 
 -- what an act at p comes to; o: the open raster, go: the walk of the text after this command
-unfoldable pub walked : (ℕ → ListCard) → List ℕ → (ℕ → Opened → Finding) → ℕ → Opened → Act → Finding
+unfoldable pub walked : (ℕ → ListCard) → List ℕ → (ℕ → Option Opened → Finding) → ℕ → Option Opened → Act → Finding
 walked cards text go p o (Refused code) = faults (fault code p) (reason_for cards text (fault code p))
-walked cards text go p o Opens = go (p + size_at text p) (Open (place_at p) 0 0)
+walked cards text go p o Opens = go (p + size_at text p) (opened_at (place_at p))
 walked cards text go p o (Exposes r) = go (p + size_at text p) (one_more o)
-walked cards text go p o (Loops t) = closed text p t o (go (p + size_at text p) Shut)
+walked cards text go p o (Loops t) = closed text p t o (go (p + size_at text p) None)
 walked cards text go p o Waits = paused text p o (go (p + size_at text p) o)
 walked cards text go p o (Calls m) = passes 1 0 [] p (CallsOn m)
 walked cards text go p o Ends = passes 1 0 [] p Terminates
 
 -- the text from p on; each command takes a byte at least, so as many turns as the text has bytes are enough
-unfoldable pub walk : (ℕ → ListCard) → List ℕ → ℕ → ℕ → Opened → Finding
+unfoldable pub walk : (ℕ → ListCard) → List ℕ → ℕ → ℕ → Option Opened → Finding
 walk cards text zero p o = faults (fault 3 p) None
 walk cards text (suc f) p o = walked cards text (λ p' o'. walk cards text f p' o') p o (judge cards text p o)
 
@@ -92,9 +93,9 @@ rounds F q (passes k x is p Terminates) = passes (1 + q * k) (q * x) is p Termin
 rounds F q (passes k x is p (CallsOn m)) = cond (ltb F.last m) (faults (fault 4 p) None) (passes (1 + q * k) (q * x) is p (CallsOn m))
 rounds F q (faults f reason) = faults f reason
 
-abbrev pub checked_by : Env → List ℕ → Header → Finding
-checked_by E text (Repeats q) = rounds E.format q (walk E.cards text (length text) 4 Shut)
-checked_by E text (Bad f) = faults f None
+abbrev pub checked_by : Env → List ℕ → Result ℕ Fault → Finding
+checked_by E text (Ok q) = rounds E.format q (walk E.cards text (length text) 4 None)
+checked_by E text (Err f) = faults f None
 
 -- one sequence, taken alone
 unfoldable pub check_one : Env → List ℕ → Finding

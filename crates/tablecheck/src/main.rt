@@ -3,7 +3,7 @@
 // `same`, or the first after `old`, asks whether a pass still stands: standard input is then the dumps of then and those of now.
 #![tactic(auto)]
 
-use line::Numeral;
+use console::Page;
 use memory::{Address, Format};
 use sequence::Fault;
 use std::env::FillError;
@@ -14,8 +14,11 @@ use survey::{Ending, Reason, Report, Standing};
 // The two dumps put together.
 const TABLES: usize = memory::SEQUENCE_TABLE + memory::LINE_LIST_TABLE;
 
-// Lines are shown once they have so many bytes. Behind these the text has room for a line with any argument.
-const MANY: usize = 4096;
+// The bytes of text that can wait.
+const TEXT: usize = 70000;
+
+// More text than a line has, with any argument: where there is less room, the lines so far are shown.
+const ROOM: usize = 65904;
 
 // The longest argument that is looked at.
 const WORD: usize = 65536;
@@ -30,115 +33,63 @@ struct Asked {
 }
 
 // A word and a blank on a line, and what the check was refused for.
-fn put_refused(text: &mut [u8], at: usize, word: &[u8], code: u8) -> usize {
-    let mut p = line::put_word(text, at, b"REFUSED ");
-    p = line::put_word(text, p, word);
-    line::put_blank_number(text, p, code as u64)
+fn put_refused(page: &mut Page, word: &[u8], code: u8) {
+    page.put_word(b"REFUSED ");
+    page.put_word(word);
+    page.put_number(u64::from(code));
 }
 
-// The chain's sequences in order.
-fn put_chain(text: &mut [u8], at: usize, listed: &[u8; memory::SEQUENCES], count: usize) -> usize {
-    line::put_numbers(text, at, octets::part(listed, 0, count))
-}
-
-// A reason by its number and value, where there is one.
-fn put_why(text: &mut [u8], at: usize, number: u8, value: u8) -> usize {
-    if number == 0 {
-        return at;
-    }
-    let p = line::put_word(text, at, b" REASON ");
-    line::put_reason(text, p, number, value)
+// A passed check: how the chain ends, steps, exposures and the chain's sequences in order.
+fn put_passed(page: &mut Page, word: &[u8], how: &[u8], report: Report) {
+    page.put_word(b"PASS ");
+    page.put_word(word);
+    page.put_word(how);
+    page.put_number(report.steps);
+    page.put_number(report.exposures);
+    page.put_numbers(octets::part(&report.listed, 0, report.count));
 }
 
 // A fault's reason, where it has one.
-fn put_reason(text: &mut [u8], at: usize, reason: Reason) -> usize {
+fn put_reason(page: &mut Page, reason: Reason) {
     let why = reason.shown();
-    put_why(text, at, why.number, why.value)
-}
-
-// A passed check: how the chain ends, steps, exposures and the chain.
-fn put_passed(text: &mut [u8], at: usize, word: &[u8], how: &[u8], report: Report) -> usize {
-    let listed = report.listed;
-    let mut p = line::put_word(text, at, b"PASS ");
-    p = line::put_word(text, p, word);
-    p = line::put_word(text, p, how);
-    p = line::put_blank_number(text, p, report.steps);
-    p = line::put_blank_number(text, p, report.exposures);
-    put_chain(text, p, &listed, report.count)
+    if why.number != 0 {
+        page.put_word(b" REASON ");
+        page.put_reason(why.number, why.value);
+    }
 }
 
 // A fault: its code, sequence and place, the chain through that sequence, and the reason where it has one.
 fn put_fault(
-    text: &mut [u8],
-    at: usize,
+    page: &mut Page,
     word: &[u8],
     sequence: u8,
     fault: Fault,
     reason: Reason,
     report: Report,
-) -> usize {
-    let listed = report.listed;
-    let mut p = line::put_word(text, at, b"FAULT ");
-    p = line::put_word(text, p, word);
-    p = line::put_blank_number(text, p, fault.code as u64);
-    p = line::put_blank_number(text, p, sequence as u64);
-    p = line::put_blank_number(text, p, fault.place as u64);
-    p = put_chain(text, p, &listed, report.count);
-    put_reason(text, p, reason)
+) {
+    page.put_word(b"FAULT ");
+    page.put_word(word);
+    page.put_numbers(&[fault.code, sequence, fault.place]);
+    page.put_numbers(octets::part(&report.listed, 0, report.count));
+    put_reason(page, reason);
 }
 
-// What a report tells, by its ending.
-fn put_told(text: &mut [u8], at: usize, word: &[u8], report: Report) -> usize {
-    let ending = report.ending;
-    match ending {
-        Ending::Unlisted(code) => put_refused(text, at, word, code),
-        Ending::Finishes => put_passed(text, at, word, b" ENDS", report),
-        Ending::Returns => put_passed(text, at, word, b" RETURNS", report),
+// The line of one report: what it tells, by its ending.
+fn put_report(page: &mut Page, word: &[u8], report: Report) {
+    match report.ending {
+        Ending::Unlisted(code) => put_refused(page, word, code),
+        Ending::Finishes => put_passed(page, word, b" ENDS", report),
+        Ending::Returns => put_passed(page, word, b" RETURNS", report),
         Ending::Faults(sequence, fault, reason) => {
-            put_fault(text, at, word, sequence, fault, reason, report)
+            put_fault(page, word, sequence, fault, reason, report)
         }
     }
-}
-
-// The line of one report.
-fn put_report(text: &mut [u8], at: usize, word: &[u8], report: Report) -> usize {
-    let p = put_told(text, at, word, report);
-    line::put(text, p, b'\n')
-}
-
-// What a line list's card says: good, with its marks, or bad, and for what reason.
-fn put_tested(text: &mut [u8], at: usize, card: [u8; sequence::CARD]) -> usize {
-    if card[0] == 0 {
-        let p = line::put_word(text, at, b" GOOD ");
-        return line::put_marks(text, p, card[2]);
-    }
-    let p = line::put_word(text, at, b" BAD");
-    put_why(text, p, card[0], card[1])
-}
-
-// The line of one line list.
-fn put_list(text: &mut [u8], at: usize, n: u8, card: [u8; sequence::CARD]) -> usize {
-    let mut p = line::put_word(text, at, b"LIST");
-    p = line::put_blank_number(text, p, n as u64);
-    p = put_tested(text, p, card);
-    line::put(text, p, b'\n')
-}
-
-// An address in six hex digits.
-fn put_address(text: &mut [u8], at: usize, address: Address) -> usize {
-    let n = address.number();
-    let mut p = line::put_octet(text, at, (n / 65536 % 256) as u8);
-    p = line::put_octet(text, p, (n / 256 % 256) as u8);
-    line::put_octet(text, p, (n % 256) as u8)
+    page.put(b'\n');
 }
 
 // The number of the sequence that a word names; no table has that of a word that is no number.
 fn number_named(word: &[u8]) -> u32 {
-    let named = line::number(word, 0);
-    match named {
-        Numeral::Value(n) => n as u32,
-        Numeral::Wrong => 65535,
-    }
+    line::number(word, 0).map_or(65535, u32::from)
 }
 
 // The sequence table of two dumps put together, and their line lists.
@@ -151,14 +102,23 @@ fn lists_of(tables: &[u8]) -> &[u8] {
 }
 
 // The line of the check of the sequence that a word names.
-fn put_checked(text: &mut [u8], at: usize, kind: u32, tables: &[u8], word: &[u8]) -> usize {
+fn put_checked(page: &mut Page, kind: u32, tables: &[u8], word: &[u8]) {
     let report = survey::check(kind, seqs_of(tables), lists_of(tables), number_named(word));
-    put_report(text, at, word, report)
+    put_report(page, word, report)
+}
+
+// The line of a check that does not stand: the lowest address of a byte that is another now, in six hex digits.
+fn put_changed(page: &mut Page, word: &[u8], address: Address) {
+    page.put_word(b"CHANGED ");
+    page.put_word(word);
+    page.put(b' ');
+    page.put_octets(&address.number().to_be_bytes()[1..]);
+    page.put(b'\n');
 }
 
 // The line of the sequence that a word names, whose check is held against the tables of now, which come after those of then: as it was, or the
 // lowest address of a byte that is not; where it did not pass, the check's own line.
-fn put_standing(text: &mut [u8], at: usize, kind: u32, tables: &[u8], word: &[u8]) -> usize {
+fn put_standing(page: &mut Page, kind: u32, tables: &[u8], word: &[u8]) {
     let now = octets::part(tables, TABLES, TABLES);
     let standing = survey::still(
         kind,
@@ -169,109 +129,72 @@ fn put_standing(text: &mut [u8], at: usize, kind: u32, tables: &[u8], word: &[u8
         number_named(word),
     );
     match standing {
-        Standing::Unpassed(_) => put_checked(text, at, kind, tables, word),
+        Standing::Unpassed(_) => put_checked(page, kind, tables, word),
         Standing::Same => {
-            let mut p = line::put_word(text, at, b"SAME ");
-            p = line::put_word(text, p, word);
-            line::put(text, p, b'\n')
+            page.put_word(b"SAME ");
+            page.put_word(word);
+            page.put(b'\n');
         }
-        Standing::Changed(address) => {
-            let mut p = line::put_word(text, at, b"CHANGED ");
-            p = line::put_word(text, p, word);
-            p = line::put(text, p, b' ');
-            p = put_address(text, p, address);
-            line::put(text, p, b'\n')
-        }
+        Standing::Changed(address) => put_changed(page, word, address),
     }
 }
 
 // Every line list in order.
-fn put_lists(text: &mut [u8], at: usize, lists: &[u8]) -> usize {
-    let mut end = at;
+fn put_lists(page: &mut Page, lists: &[u8]) {
     for n in 0..=memory::LAST_LINE_LIST {
-        end = put_list(
-            text,
-            end,
-            n,
-            sequence::list_card(memory::list(lists, n), true).bytes(),
-        );
+        let card = sequence::list_card(memory::list(lists, n), true);
+        page.put_list(n, &sequence::card_bytes(card), b" BAD REASON ");
     }
-    end
 }
 
 // What a word asks for: the line of the sequence that it names, or the line lists.
-fn put_asked(text: &mut [u8], at: usize, asked: Asked, tables: &[u8], word: &[u8]) -> usize {
-    let kind = asked.kind;
+fn put_asked(page: &mut Page, asked: Asked, tables: &[u8], word: &[u8]) {
     if asked.same {
-        return put_standing(text, at, kind, tables, word);
+        put_standing(page, asked.kind, tables, word)
+    } else if line::is_word(word, b"lists") {
+        put_lists(page, lists_of(tables))
+    } else {
+        put_checked(page, asked.kind, tables, word)
     }
-    if line::is_word(word, b"lists") {
-        return put_lists(text, at, lists_of(tables));
-    }
-    put_checked(text, at, kind, tables, word)
 }
 
-// Where the next line is put: behind the lines so far, or, where these are many, at the start once they are shown.
-fn next_line(rt: &impl Print, text: &[u8], end: usize) -> usize {
-    if end < MANY {
-        return end;
+// Every sequence in order.
+fn show_all(rt: &impl Print, page: &mut Page, asked: Asked, tables: &[u8], word: &mut [u8]) {
+    for n in 0..=Format::of(asked.kind).last {
+        let digits = line::put_number(word, 0, u64::from(n));
+        page.make_room(rt, ROOM);
+        put_asked(page, asked, tables, octets::part(word, 0, digits));
     }
-    console::show(rt, octets::part(text, 0, end));
-    0
 }
 
-// Every sequence in order, shown.
-fn show_all(rt: &impl Print, asked: Asked, tables: &[u8], word: &mut [u8], text: &mut [u8]) {
-    let last = Format::of(asked.kind).last as u64;
-    let mut end = 0;
-    for n in 0..=last {
-        let digits = line::put_number(word, 0, n);
-        let at = next_line(rt, text, end);
-        end = put_asked(text, at, asked, tables, octets::part(word, 0, digits));
-    }
-    console::show(rt, octets::part(text, 0, end));
+// Whether the program was started with an argument of this place. It is put nowhere: a longer one than the empty buffer is there all the same.
+fn is_given(rt: &impl Env, i: usize) -> bool {
+    !matches!(rt.arg(i, &mut []), Err(FillError::NotPresent))
 }
 
-// How many arguments the program was started with, its own name among them. None is put anywhere: a longer one than the empty buffer is there
-// all the same.
-fn arg_count(rt: &impl Env) -> usize {
-    for i in 0..usize::MAX {
-        if let Err(FillError::NotPresent) = rt.arg(i, &mut []) {
-            return i;
-        }
-    }
-    usize::MAX
-}
-
-// What the arguments that name sequences ask for, each in its turn, shown.
+// What the arguments that name sequences ask for, each in its turn.
 fn show_named(
     rt: &(impl Print + Env),
+    page: &mut Page,
     asked: Asked,
     tables: &[u8],
     word: &mut [u8],
-    text: &mut [u8],
 ) {
-    let count = arg_count(rt);
-    let mut end = 0;
-    for i in asked.first..count {
-        let letters = console::arg(rt, i, word);
-        let at = next_line(rt, text, end);
-        end = put_asked(text, at, asked, tables, octets::part(word, 0, letters));
+    for i in asked.first..usize::MAX {
+        if !is_given(rt, i) {
+            return;
+        }
+        page.make_room(rt, ROOM);
+        put_asked(page, asked, tables, console::word(rt, i, word));
     }
-    console::show(rt, octets::part(text, 0, end));
 }
 
 // What the arguments before those that name sequences ask for.
 fn read_words(rt: &impl Env, word: &mut [u8]) -> Asked {
-    let end = console::arg(rt, 1, word);
-    let kind = line::kind_named(octets::part(word, 0, end));
-    let first = if kind == memory::FLIGHT { 1 } else { 2 };
-    let end = console::arg(rt, first, word);
-    let same = line::is_word(octets::part(word, 0, end), b"same");
-    if !same {
-        return Asked { kind, same, first };
-    }
-    let first = if kind == memory::FLIGHT { 2 } else { 3 };
+    let kind = line::kind_named(console::word(rt, 1, word));
+    let next = if kind == memory::FLIGHT { 1 } else { 2 };
+    let same = line::is_word(console::word(rt, next, word), b"same");
+    let first = if same { next + 1 } else { next };
     Asked { kind, same, first }
 }
 
@@ -281,7 +204,7 @@ fn run(
     input: &mut impl Read,
     tables: &mut [u8],
     word: &mut [u8],
-    text: &mut [u8],
+    page: &mut Page,
 ) {
     let n = console::read_full(input, tables);
     let asked = read_words(rt, word);
@@ -290,17 +213,19 @@ fn run(
         console::show(rt, b"REFUSED TABLES 16\n");
         return;
     }
-    if arg_count(rt) <= asked.first {
-        show_all(rt, asked, tables, word, text)
+    if is_given(rt, asked.first) {
+        show_named(rt, page, asked, tables, word)
     } else {
-        show_named(rt, asked, tables, word, text)
+        show_all(rt, page, asked, tables, word)
     }
+    page.show(rt);
 }
 
 fn main(rt: HostRuntime) {
     let mut tables = [0u8; 2 * TABLES + 1];
     let mut word = [0u8; WORD];
-    let mut text = [0u8; 70000];
+    let mut text = [0u8; TEXT];
     let mut input = rt.stdin();
-    run(&rt, &mut input, &mut tables, &mut word, &mut text)
+    let mut page = Page::over(&mut text);
+    run(&rt, &mut input, &mut tables, &mut word, &mut page)
 }

@@ -1,3 +1,3 @@
--- `Laws` has what other crates cite of commands; `Ways` a law for each way out of a function.
+-- `Laws` has what other crates cite of commands and refusals; `Ways` what they cite of a dump.
 pub mod Laws
 pub mod Ways

@@ -5,15 +5,17 @@ ghost use Rattle.std.specs.Prelude.{◌≡◌, drop};
 ghost use Rattle.octets.specs.Bytes.{triple_at};
 ghost use Rattle.octets.specs.Rows.{first_code};
 ghost use Rattle.memory.specs.Memory.{part_of, seqs_written, lists_written};
-ghost use Rattle.telecommand.specs.Packet.{from_to, foreign, telecommand_of, shape_rows, pair_allowed, dump_range, uplink_range, writes_to};
+ghost use Rattle.telecommand.specs.Packet.{foreign, telecommand_of, shape_rows, pair_allowed, dump_range, uplink_range, writes_to};
+ghost use Rattle.telecommand.specs.Refusal.{refusal_code, result_code};
 
-use memory::{Address, Range};
+use memory::Range;
 
 // The bytes of the longest packet.
 pub const LONGEST_PACKET: usize = 133;
 
 // The command that a packet's BC1 names: one of the table, one of another subsystem (5), or unknown (6).
-#[derive(Clone, Copy)]
+// Stays: the last two are commands, and no `Result`'s error, since the clause of `telecommand_of` and the theorems on codes name them.
+#[derive(Clone, Copy, PartialEq, Eq)]
 pub enum Telecommand {
     Status,
     Dump,
@@ -26,33 +28,52 @@ pub enum Telecommand {
     Unheard,
 }
 
-// Whether a number lies from one to another.
-fn from_to(from: u8, to: u8, n: u8) -> bool
-    ensures { result ≡ from_to from to n }
-{
-    octets::both(from <= n, n <= to)
+// Why a packet is refused.
+#[derive(Clone, Copy, PartialEq, Eq)]
+pub enum Refusal {
+    // The packet is empty, or its length is not its command's.
+    WrongLength = 1,
+    // The pair of modes is not allowed, or a start has nothing selected.
+    PairNotAllowed = 3,
+    // A mode change before mode changes were allowed.
+    NotYetAllowed = 4,
+    // The command is another subsystem's.
+    OtherSubsystem = 5,
+    // The command is not in the table, or the mode is one that is not built.
+    NotInTable = 6,
+    // A count or a range is wrong, or a sequence's number too high.
+    WrongRange = 7,
+    // The packet is longer than the longest.
+    TooLong = 8,
+    // There is no such mode.
+    NoSuchMode = 9,
+    // A selection outside MANUAL, or an uplink while a sequence runs.
+    WrongMode = 10,
+    // A lent table or the output is of wrong size.
+    WrongSize = 16,
+    // The state is out of range.
+    OutOfRange = 17,
+}
+
+impl Refusal {
+    // The code that a refused packet is answered.
+    pub fn code(self) -> u8
+        ensures { result ≡ refusal_code self }
+    {
+        self as u8
+    }
 }
 
 // Whether a BC1 is another subsystem's.
 fn foreign(n: u8) -> bool
     ensures { result ≡ foreign n }
 {
-    octets::either(
-        n == 0x00,
-        octets::either(
-            from_to(0x10, 0x1F, n),
-            octets::either(
-                from_to(0xE0, 0xE4, n),
-                octets::either(
-                    from_to(0xF0, 0xF4, n),
-                    octets::either(from_to(0xF6, 0xFF, n), false),
-                ),
-            ),
-        ),
-    )
+    matches!(n, 0x00 | 0x10..=0x1F | 0xE0..=0xE4 | 0xF0..=0xF4 | 0xF6..=0xFF)
 }
 
 // The command that BC1 names.
+// Stays: the name and the clause may not change, and a `From` would only call it.
+#[tactic(auto, unfolding(crate::specs::Packet::telecommand_of))]
 pub fn telecommand_of(bc1: u8) -> Telecommand
     ensures { result ≡ telecommand_of bc1 }
 {
@@ -64,33 +85,32 @@ pub fn telecommand_of(bc1: u8) -> Telecommand
         0x23 => Telecommand::Clear,
         0x83 => Telecommand::Select,
         0xE7 => Telecommand::Uplink,
-        _ => {
-            if foreign(bc1) {
-                Telecommand::Foreign
-            } else {
-                Telecommand::Unheard
-            }
-        }
+        _ if foreign(bc1) => Telecommand::Foreign,
+        _ => Telecommand::Unheard,
     }
 }
 
 impl Telecommand {
-    // What a packet is refused with for its command and its length: 5 for another subsystem's, 6 for an unknown one, 1 for
-    // another length than the command's, or 0.
-    pub fn shape_fault(self, pkt: &[u8]) -> u8
-        ensures { result ≡ first_code (shape_rows self pkt.now) }
+    // Why a packet is refused for its command or its length: another subsystem's, an unknown one, or another length than the command's.
+    pub fn shape_fault(self, pkt: &[u8]) -> Result<(), Refusal>
+        ensures { result_code result ≡ first_code (shape_rows self pkt.now) }
     {
         let n = pkt.len();
-        match self {
-            Telecommand::Status => octets::refuse(n != 1, 1, 0),
-            Telecommand::Dump => octets::refuse(n != 7, 1, 0),
-            Telecommand::Allow => octets::refuse(!octets::both(1 <= n, n <= 2), 1, 0),
-            Telecommand::Mode => octets::refuse(n != 2, 1, 0),
-            Telecommand::Clear => octets::refuse(n != 1, 1, 0),
-            Telecommand::Select => octets::refuse(n != 2, 1, 0),
-            Telecommand::Uplink => octets::refuse(n != 5 + octets::byte(pkt, 4) as usize, 1, 0),
-            Telecommand::Foreign => 5,
-            Telecommand::Unheard => 6,
+        let whole = match self {
+            Telecommand::Status => n == 1,
+            Telecommand::Dump => n == 7,
+            Telecommand::Allow => n == 1 || n == 2,
+            Telecommand::Mode => n == 2,
+            Telecommand::Clear => n == 1,
+            Telecommand::Select => n == 2,
+            Telecommand::Uplink => n == 5 + octets::byte(pkt, 4) as usize,
+            Telecommand::Foreign => return Err(Refusal::OtherSubsystem),
+            Telecommand::Unheard => return Err(Refusal::NotInTable),
+        };
+        if whole {
+            Ok(())
+        } else {
+            Err(Refusal::WrongLength)
         }
     }
 }
@@ -99,30 +119,22 @@ impl Telecommand {
 pub fn pair_allowed(from: u8, to: u8) -> bool
     ensures { result ≡ pair_allowed from to }
 {
-    octets::either(
-        octets::both(from == 1, to == 2),
-        octets::either(
-            octets::both(from == 2, to == 1),
-            octets::either(
-                octets::both(from == 2, to == 3),
-                octets::either(octets::both(from == 3, to == 2), false),
-            ),
-        ),
-    )
+    matches!((from, to), (1, 2) | (2, 1) | (2, 3) | (3, 2))
 }
 
 // The range that a dump names.
 pub fn dump_range(pkt: &[u8]) -> Range
     ensures { result ≡ dump_range pkt.now }
 {
-    Address::of(octets::triple(pkt, 1)).range(octets::triple(pkt, 4) as usize)
+    memory::range_at(octets::triple(pkt, 1), octets::triple(pkt, 4) as usize)
 }
 
 // The range that an uplink names.
+// Stays: both names may not change, and what they share is one call.
 pub fn uplink_range(pkt: &[u8]) -> Range
     ensures { result ≡ uplink_range pkt.now }
 {
-    Address::of(octets::triple(pkt, 1)).range(octets::byte(pkt, 4) as usize)
+    memory::range_at(octets::triple(pkt, 1), octets::byte(pkt, 4) as usize)
 }
 
 // The bytes that a dump names.
@@ -138,7 +150,7 @@ pub fn uplink(command: Telecommand, seqs: &mut [u8], lists: &mut [u8], pkt: &[u8
     ensures seqs_after { seqs.new ≡ seqs_written (writes_to command pkt.now) seqs.old (drop 5 pkt.now) }
     ensures lists_after { lists.new ≡ lists_written (writes_to command pkt.now) lists.old (drop 5 pkt.now) }
 {
-    if let Telecommand::Uplink = command {
+    if command == Telecommand::Uplink {
         memory::write_range(
             seqs,
             lists,

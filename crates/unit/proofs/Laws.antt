@@ -1,16 +1,16 @@
--- Laws of packets over the definitions alone: which codes there are, when a packet is obeyed, and what a refusal leaves. Assumes nothing.
-use Prim.Native.Nat.{ℕ, ◌≤◌}
+-- Laws of packets over the definitions alone: when a packet is obeyed, and what a refusal leaves. Assumes nothing.
+use Prim.Native.Nat.{ℕ, ◌≤◌, ◌<◌}
 use native.Mathlib.Omega.{arith}
 use mathlib.Core.Path.{◌≡◌, refl}
-use mathlib.Core.Bool.{Bool, true, false, cond, ◌&&◌}
+use mathlib.Core.Bool.{Bool, true, false, cond}
 use mathlib.Core.List.{List, [], ◌∷◌, ◌++◌}
-use mathlib.Core.Logic.{◌↔◌, ◌⊎◌, inl, inr}
+use mathlib.Core.Logic.{◌↔◌}
 use lib.Dec.{T, ltb, leb}
-use lib.ListN.{length, drop}
-use borrow.Author.Tests.{ltb-false, leb-true, le-leb, ne_eqb}
+use lib.ListN.{length}
+use borrow.Author.Tests.{ltb-false, le-leb, ne_eqb}
 use Rattle.octets.specs.Rows.{Row, first_code, NoneHolds, coded as no_zero}
 use Rattle.octets.proofs.Laws.{none-split, obeyed-exactly}
-use Rattle.octets.proofs.Bools.{and_T, or-neither, either}
+use Rattle.octets.proofs.Bools.{or-neither, by-test}
 use Rattle.memory.specs.declared.Format.{Format}
 use Rattle.memory.specs.Memory.{tables_wrong}
 use Rattle.status.specs.declared.Ledger.{Ledger}
@@ -22,39 +22,18 @@ use Rattle.unit.specs.State.{with_ledger, out_of_range}
 use Rattle.unit.specs.Packet.{own_rows, lent_wrong, arrival_rows, packet_rows, code_of}
 use Rattle.unit.specs.Answer.{refused_unit, unit_after, reply_of, seqs_after, lists_after, out_after}
 
--- ── which codes there are
--- no row's code is above a number
-abbrev capped : ℕ → List Row → Bool
-capped n [] = true
-capped n (r ∷ rs) = leb r.code n && capped n rs
-
-first-capped : (n : ℕ) (rs : List Row) → T (capped n rs) → first_code rs ≤ n
-first-capped n [] p = omega arith
-first-capped n (r ∷ rs) p =
-    let (h, q) = and_T (leb r.code n) (capped n rs) p in
-    either (λ (m : ℕ). m ≤ n) r.holds r.code (first_code rs) (leb-true r.code n h) (first-capped n rs q)
-
--- of the commands' own rows: no code is 0, none is above 10
-own-rows : (F : Format) (k : Telecommand) (u : Unit) (p : List ℕ) → T (no_zero (own_rows F k u p)) × T (capped 10 (own_rows F k u p))
+-- no row of the commands' own bears 0
+own-coded : (F : Format) (k : Telecommand) (u : Unit) (p : List ℕ) → T (no_zero (own_rows F k u p))
 unfolding own_rows
-own-rows F Status u p = (tt, tt)
-own-rows F Dump u p = (tt, tt)
-own-rows F Allow u p = (tt, tt)
-own-rows F Mode u p = (tt, tt)
-own-rows F Clear u p = (tt, tt)
-own-rows F Select u p = (tt, tt)
-own-rows F Uplink u p = (tt, tt)
-own-rows F Foreign u p = (tt, tt)
-own-rows F Unheard u p = (tt, tt)
-
--- a code up to 10, or 16, or 17
-abbrev pub Known : ℕ → Type 0
-Known code = (code ≤ 10) ⊎ ((code ≡ 16) ⊎ (code ≡ 17))
-
-known : (code : ℕ) (lent range : Bool) → code ≤ 10 → Known (cond lent 16 (cond range 17 code))
-known code true range h = inr (inl refl)
-known code false true h = inr (inr refl)
-known code false false h = inl h
+own-coded F Status u p = tt
+own-coded F Dump u p = tt
+own-coded F Allow u p = tt
+own-coded F Mode u p = tt
+own-coded F Clear u p = tt
+own-coded F Select u p = tt
+own-coded F Uplink u p = tt
+own-coded F Foreign u p = tt
+own-coded F Unheard u p = tt
 
 -- what is kept is kept whichever way a test goes
 refused-parts : (t : Bool) (u : Unit) (l : Ledger) → let v : Unit = cond t u (with_ledger l u) in
@@ -66,13 +45,7 @@ module _ (F : Format) (u : Unit) (seqs lists out p : List ℕ) where
   -- no row bears 0
   pub coded : T (no_zero (packet_rows F u seqs lists out p))
   unfolding packet_rows
-  coded = (own-rows F (command_of p) u p).0
-
-  pub own-codes : Known (code_of F u seqs lists out p)
-  unfolding code_of packet_rows
-  own-codes =
-      let rest = drop 2 (packet_rows F u seqs lists out p) in
-      known (first_code rest) (lent_wrong F seqs lists out) (out_of_range F u) (first-capped 10 rest (own-rows F (command_of p) u p).1)
+  coded = own-coded F (command_of p) u p
 
   -- ── when a packet is obeyed
   pub accepted : (code_of F u seqs lists out p ≡ 0) ↔ NoneHolds (packet_rows F u seqs lists out p)
@@ -124,3 +97,8 @@ status-obeyed F u seqs lists out lent range = simp (lent, range)
 pub room : (F : Format) (seqs lists out : List ℕ) → lent_wrong F seqs lists out ≡ false → 16384 ≤ length out
 unfolding lent_wrong
 room F seqs lists out h = ltb-false (length out) 16384 (or-neither (tables_wrong F seqs lists) (ltb (length out) 16384) h).1
+
+-- where a row of the first of two tables one after the other holds, the code is that of the first
+pub first-kept : (xs ys : List Row) → 0 < first_code xs → first_code (xs ++ ys) ≡ first_code xs
+first-kept [] ys h = absurd (omega arith)
+first-kept (r ∷ rs) ys h = by-test r.holds (λ t. rw t) (λ f. rw f (first-kept rs ys (rw f at h)))

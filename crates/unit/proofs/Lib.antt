@@ -1,3 +1,2 @@
--- `Laws` has what other crates cite of packets; `Ways` a law for each way out of a function.
+-- What other crates cite of packets.
 pub mod Laws
-pub mod Ways

@@ -1,11 +1,13 @@
 // The unit: packets, answers, and its step.
 #![tactic(auto)]
 
-ghost use Rattle.std.specs.Prelude.{◌≤◌, ◌≡◌, true, ◌++◌, leb, length, drop};
+ghost use Rattle.std.specs.Prelude.{◌≤◌, ◌≡◌, true, ◌++◌, leb, length, drop, IfOk};
 ghost use Rattle.octets.specs.Bytes.{counted};
 ghost use Rattle.octets.specs.Rows.{first_code, some};
 ghost use Rattle.memory.specs.Memory.{format_of, window_code, window_part};
 ghost use Rattle.telecommand.specs.declared.Telecommand.TheVariants.{Mode, Select, Uplink};
+ghost use Rattle.telecommand.specs.Packet.{command_of};
+ghost use Rattle.telecommand.specs.Refusal.{refusal_code, result_code};
 ghost use Rattle.status.specs.State.{with_abort, with_mode, with_allowed, with_requests, cleared};
 ghost use Rattle.unit.specs.State.{power_on, beyond, runs_wrong, range_tests, out_of_range, with_ledger, with_watch, with_control, started, stopped, moded, selected};
 ghost use Rattle.unit.specs.Packet.{own_rows, lent_wrong, code_of};
@@ -14,8 +16,8 @@ ghost use Rattle.unit.specs.Step.{with_step, unit_step};
 
 use memory::Format;
 use runner::{Event, OpenRaster, Runner, Stepped};
-use status::{Control, Ledger, Log, Watch};
-use telecommand::Telecommand;
+use status::{Control, Ledger, Watch};
+use telecommand::{Refusal, Telecommand};
 
 #[derive(Clone, Copy)]
 pub struct Unit {
@@ -26,6 +28,7 @@ pub struct Unit {
 }
 
 // What a packet is answered: the code, the size of what was written to the output, and the unit after it.
+// Stays: the code is a number, 0 for obeyed, as the theorem `PacketIs` and demands 1 and 2 have it, and as the C interface gives it.
 #[derive(Clone, Copy)]
 pub struct Answer {
     pub code: u8,
@@ -33,35 +36,14 @@ pub struct Answer {
     pub unit: Unit,
 }
 
-// What a step of the unit comes to: refused with 16 or 17, or an event.
-#[derive(Clone, Copy)]
-pub enum Outcome {
-    Denied(u8),
-    Saw(Event),
-}
+// What a step of the unit comes to: an event, or the code that it is refused with, 16 or 17.
+// Stays: that code is a number, as the clause of `step` and demand 1 have it.
+pub type Outcome = Result<Event, u8>;
 
 #[derive(Clone, Copy)]
 pub struct UnitStep {
     pub outcome: Outcome,
     pub unit: Unit,
-}
-
-// The ledger at power-on: nothing counted, refused or logged.
-fn blank() -> Ledger
-    ensures { result ≡ power_on.ledger }
-{
-    Ledger {
-        received: 0,
-        failed: 0,
-        code: 0,
-        number: 0,
-        log: Log {
-            bc1: 0,
-            bc2: 0,
-            bc3: 0,
-            size: 0,
-        },
-    }
 }
 
 impl Unit {
@@ -79,22 +61,19 @@ impl Unit {
     pub const LONGEST_PACKET: usize = telecommand::LONGEST_PACKET;
 
     // The unit at power-on.
+    #[tactic(auto, unfolding(crate::specs::State::power_on))]
     pub fn power_on() -> Unit
         ensures { result ≡ power_on }
     {
         Unit {
-            ledger: blank(),
+            ledger: Ledger::default(),
             control: Control {
                 mode: 1,
                 allowed: false,
                 requests: 0,
                 selection: Runner::NONE,
             },
-            watch: Watch {
-                list: 0,
-                exposures: 0,
-                abort: 0,
-            },
+            watch: Watch::default(),
             runner: Runner {
                 sequence: Runner::NONE,
                 place: 0,
@@ -119,82 +98,56 @@ impl Unit {
 fn beyond(last: u8, n: u8) -> bool
     ensures { result ≡ beyond last n }
 {
-    octets::both(last < n, n != Runner::NONE)
+    last < n && n != Runner::NONE
 }
 
 // Whether a sequence has no such place.
 fn no_place(format: Format, place: u8) -> bool
     ensures { result ≡ leb format.size place }
 {
-    format.size <= place as u16
+    format.size <= u16::from(place)
 }
 
 impl Unit {
     // Whether it runs outside AUTO, or with selection or status sequence none.
+    #[tactic(auto, unfolding(crate::specs::State::runs_wrong))]
     fn runs_wrong(self) -> bool
         ensures { result ≡ runs_wrong self }
     {
-        octets::both(
-            self.runner.running,
-            octets::either(
-                self.control.mode != 3,
-                octets::either(
-                    self.control.selection == Runner::NONE,
-                    self.runner.sequence == Runner::NONE,
-                ),
-            ),
-        )
+        self.runner.running
+            && (self.control.mode != 3
+                || self.control.selection == Runner::NONE
+                || self.runner.sequence == Runner::NONE)
     }
 
     // Whether the place, the open raster's place, the line list, the mirror, the exposures in the set or the run itself
     // is out of range: the tests from the seventh on.
+    #[tactic(auto, unfolding(crate::specs::State::range_tests))]
     fn run_out_of_range(self, format: Format) -> bool
         ensures { result ≡ some (drop 6 (range_tests format self)) }
     {
-        octets::either(
-            no_place(format, self.runner.place),
-            octets::either(
-                octets::both(
-                    no_place(format, self.runner.raster.place),
-                    self.runner.raster.place != Runner::NONE,
-                ),
-                octets::either(
-                    memory::LAST_LINE_LIST < self.watch.list,
-                    octets::either(
-                        Unit::END_STOP < self.runner.mirror,
-                        octets::either(
-                            Runner::FULL_SET < self.runner.raster.count,
-                            octets::either(self.runs_wrong(), false),
-                        ),
-                    ),
-                ),
-            ),
-        )
+        no_place(format, self.runner.place)
+            | (no_place(format, self.runner.raster.place)
+                & (self.runner.raster.place != Runner::NONE))
+            | (memory::LAST_LINE_LIST < self.watch.list)
+            | (Unit::END_STOP < self.runner.mirror)
+            | (Runner::FULL_SET < self.runner.raster.count)
+            | self.runs_wrong()
     }
 
     // Whether the state is out of range.
+    // Stays: tried with `||`, an idle step misses its bar of speed, 1.47 for 1.25, so no test branches here or in the one before it.
+    #[tactic(auto, unfolding(crate::specs::State::range_tests, crate::specs::State::out_of_range))]
     pub fn out_of_range(self, format: Format) -> bool
         ensures { result ≡ out_of_range format self }
     {
-        octets::either(
-            self.control.mode < 1,
-            octets::either(
-                3 < self.control.mode,
-                octets::either(
-                    15 < self.ledger.code,
-                    octets::either(
-                        15 < self.watch.abort,
-                        octets::either(
-                            beyond(format.last, self.runner.sequence),
-                            octets::either(
-                                beyond(format.last, self.control.selection),
-                                self.run_out_of_range(format),
-                            ),
-                        ),
-                    ),
-                ),
-            ),
-        )
+        (self.control.mode < 1)
+            | (3 < self.control.mode)
+            | (15 < self.ledger.code)
+            | (15 < self.watch.abort)
+            | beyond(format.last, self.runner.sequence)
+            | beyond(format.last, self.control.selection)
+            | self.run_out_of_range(format)
     }
 }
 
@@ -305,6 +258,7 @@ impl Unit {
     }
 
     // The mode changed: to AUTO a start, from a running sequence a stop.
+    #[tactic(auto, unfolding(crate::specs::State::moded))]
     fn moded(self, mode: u8) -> Unit
         ensures { result ≡ moded mode self }
     {
@@ -318,6 +272,7 @@ impl Unit {
     }
 
     // A sequence selected, and shown in the status at place 0.
+    #[tactic(auto, unfolding(crate::specs::State::selected))]
     fn selected(self, number: u8) -> Unit
         ensures { result ≡ selected number self }
     {
@@ -337,111 +292,121 @@ impl Unit {
 }
 
 impl Unit {
-    // What a mode change is refused with.
-    fn mode_fault(self, pkt: &[u8]) -> u8
-        ensures { (F : Format) → result ≡ first_code (own_rows F Mode self pkt.now) }
+    // Why a mode change is refused.
+    #[tactic(auto, unfolding(crate::specs::Packet::own_rows))]
+    fn mode_fault(self, pkt: &[u8]) -> Result<(), Refusal>
+        ensures { (F : Format) → result_code result ≡ first_code (own_rows F Mode self pkt.now) }
     {
         let mode = octets::byte(pkt, 1);
-        octets::refuse(
-            !self.control.allowed,
-            4,
-            octets::refuse(
-                !octets::both(1 <= mode, mode <= 5),
-                9,
-                octets::refuse(
-                    3 < mode,
-                    6,
-                    octets::refuse(
-                        !telecommand::pair_allowed(self.control.mode, mode),
-                        3,
-                        octets::refuse(
-                            octets::both(mode == 3, self.control.selection == Runner::NONE),
-                            3,
-                            0,
-                        ),
-                    ),
-                ),
-            ),
-        )
+        if !self.control.allowed {
+            return Err(Refusal::NotYetAllowed);
+        }
+        if mode < 1 || 5 < mode {
+            return Err(Refusal::NoSuchMode);
+        }
+        if 3 < mode {
+            return Err(Refusal::NotInTable);
+        }
+        if !telecommand::pair_allowed(self.control.mode, mode) {
+            return Err(Refusal::PairNotAllowed);
+        }
+        if mode == 3 && self.control.selection == Runner::NONE {
+            return Err(Refusal::PairNotAllowed);
+        }
+        Ok(())
     }
 
-    // What a selection is refused with.
-    fn select_fault(self, format: Format, pkt: &[u8]) -> u8
-        ensures { result ≡ first_code (own_rows format Select self pkt.now) }
+    // Why a selection is refused.
+    #[tactic(auto, unfolding(crate::specs::Packet::own_rows))]
+    fn select_fault(self, format: Format, pkt: &[u8]) -> Result<(), Refusal>
+        ensures { result_code result ≡ first_code (own_rows format Select self pkt.now) }
     {
-        let outside = self.control.mode != 2;
-        let unknown = format.last < octets::byte(pkt, 1);
-        octets::refuse(outside, 10, octets::refuse(unknown, 7, 0))
+        if self.control.mode != 2 {
+            return Err(Refusal::WrongMode);
+        }
+        if format.last < octets::byte(pkt, 1) {
+            return Err(Refusal::WrongRange);
+        }
+        Ok(())
     }
 
-    // What an uplink is refused with.
-    fn uplink_fault(self, pkt: &[u8]) -> u8
-        ensures { (F : Format) → result ≡ first_code (own_rows F Uplink self pkt.now) }
+    // Why an uplink is refused.
+    #[tactic(auto, unfolding(crate::specs::Packet::own_rows))]
+    fn uplink_fault(self, pkt: &[u8]) -> Result<(), Refusal>
+        ensures { (F : Format) → result_code result ≡ first_code (own_rows F Uplink self pkt.now) }
     {
-        octets::refuse(
-            self.runner.running,
-            10,
-            octets::refuse(telecommand::uplink_range(pkt).is_wrong(), 7, 0),
-        )
+        if self.runner.running {
+            return Err(Refusal::WrongMode);
+        }
+        if telecommand::uplink_range(pkt).is_wrong() {
+            return Err(Refusal::WrongRange);
+        }
+        Ok(())
     }
 
-    // What the command's own checks refuse it with, 0 for nothing.
-    fn own_fault(self, format: Format, command: Telecommand, pkt: &[u8]) -> u8
-        ensures { result ≡ first_code (own_rows format command self pkt.now) }
+    // Why the command's own checks refuse it.
+    #[tactic(auto, unfolding(crate::specs::Packet::own_rows))]
+    fn own_fault(self, format: Format, command: Telecommand, pkt: &[u8]) -> Result<(), Refusal>
+        ensures { result_code result ≡ first_code (own_rows format command self pkt.now) }
     {
         match command {
-            Telecommand::Status => 0,
-            Telecommand::Dump => octets::refuse(telecommand::dump_range(pkt).is_wrong(), 7, 0),
-            Telecommand::Allow => 0,
+            Telecommand::Dump if telecommand::dump_range(pkt).is_wrong() => {
+                Err(Refusal::WrongRange)
+            }
             Telecommand::Mode => self.mode_fault(pkt),
-            Telecommand::Clear => 0,
             Telecommand::Select => self.select_fault(format, pkt),
             Telecommand::Uplink => self.uplink_fault(pkt),
-            Telecommand::Foreign => 0,
-            Telecommand::Unheard => 0,
+            _ => Ok(()),
         }
     }
 }
 
 // Whether there is no such kind of tables, or a lent table or the output has a wrong size.
+// Stays: a kind and its two tables go side by side, since the types of this function, `packet`, `step` and `window` may not change.
+#[tactic(auto, unfolding(crate::specs::Packet::lent_wrong))]
 pub fn lent_wrong(kind: u32, seqs: &[u8], lists: &[u8], out: &[u8]) -> bool
     ensures { result ≡ lent_wrong (format_of kind) seqs.now lists.now out.now }
 {
-    octets::either(
-        memory::tables_wrong(kind, seqs, lists),
-        out.len() < memory::LONGEST,
-    )
+    memory::tables_wrong(kind, seqs, lists) || out.len() < memory::LONGEST
 }
 
 impl Unit {
-    // The code that a packet is answered: that of the first refusal that holds, or 0. No later one is looked at.
-    fn refusal(self, kind: u32, seqs: &[u8], lists: &[u8], out: &[u8], pkt: &[u8]) -> u8
-        ensures { result ≡ code_of (format_of kind) self seqs.now lists.now out.now pkt.now }
+    // The command that a packet is obeyed as, or why it is refused: by the first refusal that holds. No later one is looked at.
+    #[tactic(auto, unfolding(crate::specs::Packet::packet_rows, crate::specs::Packet::code_of))]
+    fn command_of(
+        self,
+        kind: u32,
+        seqs: &[u8],
+        lists: &[u8],
+        out: &[u8],
+        pkt: &[u8],
+    ) -> Result<Telecommand, Refusal>
+        ensures code { result_code result ≡ code_of (format_of kind) self seqs.now lists.now out.now pkt.now }
+        ensures command { IfOk result (λ k. k ≡ command_of pkt.now) }
     {
         if lent_wrong(kind, seqs, lists, out) {
-            return 16;
+            return Err(Refusal::WrongSize);
         }
         let format = Format::of(kind);
         if self.out_of_range(format) {
-            return 17;
+            return Err(Refusal::OutOfRange);
         }
-        if pkt.len() == 0 {
-            return 1;
-        }
+        let Some(bc1) = pkt.first() else {
+            return Err(Refusal::WrongLength);
+        };
         if Unit::LONGEST_PACKET < pkt.len() {
-            return 8;
+            return Err(Refusal::TooLong);
         }
-        let command = telecommand::telecommand_of(octets::byte(pkt, 0));
-        let code = command.shape_fault(pkt);
-        if code != 0 {
-            return code;
-        }
-        self.own_fault(format, command, pkt)
+        let command = telecommand::telecommand_of(*bc1);
+        command.shape_fault(pkt)?;
+        self.own_fault(format, command, pkt)?;
+        Ok(command)
     }
 }
 
 impl Unit {
     // Writes what answers an obeyed packet over the output's start and gives its length. What stands past it stays.
+    #[tactic(auto, unfolding(crate::specs::Status::status_of, crate::specs::Answer::effect, crate::specs::Answer::obeyed_unit, crate::specs::Answer::reply))]
     fn reply<'a>(
         self,
         command: Telecommand,
@@ -455,60 +420,65 @@ impl Unit {
         ensures value { result ≡ length (reply command self time seqs.now lists.now pkt.now) }
         ensures out_after { out.new ≡ reply command self time seqs.now lists.now pkt.now ++ drop (length (reply command self time seqs.now lists.now pkt.now)) out.old }
     {
-        if let Telecommand::Status = command {
-            let unit = self.asked();
-            status::put_status(
-                unit.ledger,
-                unit.control,
-                unit.watch,
-                unit.runner,
-                time,
-                out,
-            );
-            return status::STATUS;
+        match command {
+            Telecommand::Status => {
+                let unit = self.asked();
+                status::put_status(
+                    unit.ledger,
+                    unit.control,
+                    unit.watch,
+                    unit.runner,
+                    time,
+                    out,
+                );
+                status::STATUS
+            }
+            Telecommand::Dump => {
+                let part = telecommand::dumped(seqs, lists, pkt);
+                memory::write(out, 0, part);
+                part.len()
+            }
+            _ => 0,
         }
-        if let Telecommand::Dump = command {
-            let part = telecommand::dumped(seqs, lists, pkt);
-            memory::write(out, 0, part);
-            return part.len();
-        }
-        0
     }
 
     // The unit after an obeyed packet. Each arm takes the packet in for itself: one unit made before the match costs three times the
     // time, since it goes through memory.
+    #[tactic(auto, unfolding(crate::specs::Answer::effect, crate::specs::Answer::obeyed_unit))]
     fn obeyed(self, command: Telecommand, pkt: &[u8]) -> Unit
         ensures { result ≡ obeyed_unit command pkt.now self }
     {
         match command {
             Telecommand::Status => self.asked(),
-            Telecommand::Dump => self.with_arrival(pkt),
             Telecommand::Allow => self.with_arrival(pkt).allowed(),
             Telecommand::Mode => self.with_arrival(pkt).moded(octets::byte(pkt, 1)),
             Telecommand::Clear => self.with_arrival(pkt).cleared(),
             Telecommand::Select => self.with_arrival(pkt).selected(octets::byte(pkt, 1)),
-            Telecommand::Uplink => self.with_arrival(pkt),
-            Telecommand::Foreign => self.with_arrival(pkt),
-            Telecommand::Unheard => self.with_arrival(pkt),
+            _ => self.with_arrival(pkt),
         }
     }
 
     // The unit after a refused packet: 16 and 17 change nothing. In either order, failure and arrival leave the same ledger.
-    fn refused(self, code: u8, pkt: &[u8]) -> Unit
-        ensures { result ≡ refused_unit code pkt.now self }
+    #[tactic(auto, unfolding(crate::specs::Answer::refused_unit))]
+    fn refused(self, refusal: Refusal, pkt: &[u8]) -> Unit
+        ensures { result ≡ refused_unit (refusal_code refusal) pkt.now self }
     {
-        if 16 <= code {
-            return self;
-        }
-        Unit {
-            ledger: self.ledger.failed(octets::byte(pkt, 0), code).arrived(pkt),
-            ..self
+        match refusal {
+            Refusal::WrongSize | Refusal::OutOfRange => self,
+            _ => Unit {
+                ledger: self
+                    .ledger
+                    .failed(octets::byte(pkt, 0), refusal.code())
+                    .arrived(pkt),
+                ..self
+            },
         }
     }
 }
 
 impl Unit {
     // One packet: its answer, with the unit, the tables and the output after it.
+    #[tactic(auto, unfolding(crate::specs::Answer::unit_after, crate::specs::Answer::reply_of, crate::specs::Answer::answer_of, crate::specs::Answer::seqs_after, crate::specs::Answer::lists_after, crate::specs::Answer::out_after))]
     pub fn packet(
         self,
         kind: u32,
@@ -523,28 +493,27 @@ impl Unit {
         ensures lists_after { lists.new ≡ lists_after (format_of kind) self seqs.old lists.old out.old pkt.now }
         ensures out_after { out.new ≡ out_after (format_of kind) self time seqs.old lists.old out.old pkt.now }
     {
-        let code = self.refusal(kind, seqs, lists, out, pkt);
-        if code != 0 {
-            let unit = self.refused(code, pkt);
-            return Answer {
-                code,
+        match self.command_of(kind, seqs, lists, out, pkt) {
+            Ok(command) => {
+                let size = self.reply(command, seqs, lists, out, time, pkt);
+                telecommand::uplink(command, seqs, lists, pkt);
+                Answer {
+                    code: 0,
+                    size,
+                    unit: self.obeyed(command, pkt),
+                }
+            }
+            Err(refusal) => Answer {
+                code: refusal.code(),
                 size: 0,
-                unit,
-            };
-        }
-        let command = telecommand::telecommand_of(octets::byte(pkt, 0));
-        let size = self.reply(command, seqs, lists, out, time, pkt);
-        telecommand::uplink(command, seqs, lists, pkt);
-        let unit = self.obeyed(command, pkt);
-        Answer {
-            code: 0,
-            size,
-            unit,
+                unit: self.refused(refusal, pkt),
+            },
         }
     }
 }
 
 // The code beside the part that the desk asks for: 16 for wrong tables or no kind, then 7, else 0.
+// Stays: its type may not change, and its clause has the code as a number.
 pub fn window_code(kind: u32, seqs: &[u8], lists: &[u8], address: u32, len: usize) -> u8
     ensures { result ≡ window_code (format_of kind) seqs.now lists.now address len }
 {
@@ -560,6 +529,7 @@ pub fn window<'a>(kind: u32, seqs: &'a [u8], lists: &'a [u8], address: u32, len:
 
 impl Unit {
     // The runner's step taken into the unit.
+    #[tactic(auto, unfolding(crate::specs::Step::with_step))]
     fn with_step(self, stepped: Stepped) -> UnitStep
         ensures { result ≡ with_step self stepped }
     {
@@ -567,7 +537,7 @@ impl Unit {
         let runner = stepped.runner;
         let watch = status::watched(event, self.watch);
         UnitStep {
-            outcome: Outcome::Saw(event),
+            outcome: Ok(event),
             unit: Unit {
                 watch,
                 runner,
@@ -577,18 +547,20 @@ impl Unit {
     }
 
     // One step of the unit: 16, then 17, else the runner's step and what the status takes from its event.
+    #[tactic(auto, unfolding(crate::specs::Step::step_rows, crate::specs::Step::unit_step))]
     pub fn step(self, kind: u32, seqs: &[u8], lists: &[u8]) -> UnitStep
         ensures { result ≡ unit_step (format_of kind) self seqs.now lists.now }
     {
-        let format = Format::of(kind);
-        let code = octets::refuse(
-            memory::tables_wrong(kind, seqs, lists),
-            16,
-            octets::refuse(self.out_of_range(format), 17, 0),
-        );
-        if code != 0 {
+        if memory::tables_wrong(kind, seqs, lists) {
             return UnitStep {
-                outcome: Outcome::Denied(code),
+                outcome: Err(Refusal::WrongSize.code()),
+                unit: self,
+            };
+        }
+        let format = Format::of(kind);
+        if self.out_of_range(format) {
+            return UnitStep {
+                outcome: Err(Refusal::OutOfRange.code()),
                 unit: self,
             };
         }

@@ -1,5 +1,6 @@
--- The turns left fall.
+-- No more is kept of a line than makes it too long.
+use Rattle.std.proofs.Common.{◌≤◌}
 use Rattle.desk.proofs.run.Given as goal
 
-abbrev pub decreases-loop-turns : goal.decreases-loop-turns
-decreases-loop-turns g l = l.turns
+abbrev pub invariant-loop : goal.invariant-loop
+invariant-loop g l = l.kept ≤ 512

@@ -1,32 +1,35 @@
--- `put_bits` meets its contract: at each turn the bits that are left, their numbers laid from here on, give the whole. Assumes nothing.
-use Prim.Native.Nat.{suc, ◌+◌, ◌-◌}
+-- A bit's number, where it is set, comes behind what is laid.
+use Prim.Native.Nat.{◌+◌}
 use native.Mathlib.Omega.{arith}
-use mathlib.Core.Path.{◌≡◌, refl}
-use mathlib.Core.Bool.{false}
+use mathlib.Core.List.{◌++◌}
+use lib.ListN.{length-append}
 use borrow.Author.Tests.{ne_eqb}
-use Rattle.line.specs.Writing.{members, bits_set, bits_text}
-use Rattle.line.proofs.WritingLaws.{Onward, bits-step, bits-end}
+use Rattle.line.specs.Writing.{member}
+use Rattle.line.proofs.WritingLaws.{laid_on, after_on, bit_set, bit_clear, bits_done}
 use Rattle.line.proofs.put_bits.Goals as goal
+use Rattle.line.proofs.put_bits.Goals.{then-bits-k-eq1, else-bits-k-eq1}
 
-pub returns-then-bits-eq0 : goal.returns-then-bits-eq0
-unfolding bits_text
-returns-then-bits-eq0 c = rw c.if-bits-eq0.true c.put.ensures
-
-pub loop-left-preserved : goal.loop-left-preserved
-loop-left-preserved c =
-    let l = c.loop-left in
+pub loop-k-preserved : goal.loop-k-preserved
+loop-k-preserved c =
+    let l = c.loop-k in
     let a = c.args in
-    let e : l.left ≡ suc (l.left - 1) = omega (arith, c.loop-left-test.true) in
-    let n : a.first + (64 - l.left) ≡ a.first + (63 - (l.left - 1)) = omega (arith, c.loop-left-test.true, l.invariant.0) in
-    let m : a.first + (63 - (l.left - 1)) + 1 ≡ a.first + (64 - (l.left - 1)) = omega (arith, c.loop-left-test.true, l.invariant.0) in
-    let before : Onward l.out l.p (members l.others (bits_set a.bits (suc (l.left - 1)) (a.first + (63 - (l.left - 1))))) a.out.now a.at (members false (bits_set a.bits 64 a.first)) =
-    rw (← e, ← n) l.invariant.1 in
-    (omega (arith, l.invariant.0), rw (← m, c.either-others.ensures) (bits-step a.bits (l.left - 1) (a.first + (63 - (l.left - 1))) l.others _ refl before c.put_member-p.ensures))
+    let text = l.invariant.0 in
+    let whole = l.invariant.1.1 in
+    elim c.if-bits-k-eq1.branch [
+      | then-bits-k-eq1 w ↦ (
+        text ++ member l.others (a.first + l.k),
+        (
+          grind (arith, laid_on, after_on, length-append),
+          rw w.others-is (bit_set a.bits l.k a.first l.others text _ c.loop-k-test.true whole w.if-bits-k-eq1.true),
+        ),
+      )
+      | else-bits-k-eq1 w ↦
+          (text, (rw (w.out-is, w.p-is) l.invariant.1.0, rw w.others-is (bit_clear a.bits l.k a.first l.others text _ c.loop-k-test.true whole w.if-bits-k-eq1.false)))
+    ]
 
 pub returns : goal.returns
-unfolding bits_text
 returns c =
-    let l = c.loop-left in
+    let l = c.loop-k in
     let a = c.args in
-    let z : l.left ≡ 0 = omega (arith, c.loop-left-test.false) in
-    rw (ne_eqb a.bits 0 c.if-bits-eq0.false) (bits-end a.bits (a.first + (64 - 0)) l.others (rw z at l.invariant.1))
+    let (laid, whole) = l.invariant.1 in
+    rw (ne_eqb a.bits 0 c.if-bits-eq0.false, ← whole, bits_done a.bits l.k (a.first + l.k) l.others l.invariant.0 c.loop-k-test.false) laid

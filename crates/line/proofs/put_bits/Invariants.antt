@@ -1,13 +1,11 @@
--- `put_bits` meets its contract: at each turn the bits that are left, their numbers laid from here on, give the whole. Assumes nothing.
-use Prim.Native.Nat.{◌+◌, ◌-◌, ◌≤◌}
+-- What is laid so far, and the numbers of the bits that are left, are the whole text.
+use Prim.Native.Nat.{◌+◌, ◌-◌, ℕ}
+use mathlib.Core.Path.{◌≡◌}
+use mathlib.Core.List.{List, ◌++◌}
+use Rattle.line.specs.Writing.{Laid, members, bits_set}
 use mathlib.Core.Bool.{false}
-use Rattle.line.specs.Writing.{members, bits_set}
-use Rattle.line.proofs.WritingLaws.{Onward}
 use Rattle.line.proofs.put_bits.Given as goal
 
-abbrev pub invariant-loop-left : goal.invariant-loop-left
-invariant-loop-left l =
-    (l.left ≤ 64) × Onward l.out l.p (members l.others (bits_set l.bits l.left (l.first + (64 - l.left)))) l.initial.out l.at (members false (bits_set l.bits 64 l.first))
-
-abbrev pub decreases-loop-left : goal.decreases-loop-left
-decreases-loop-left l = l.left
+abbrev pub invariant-loop-k : goal.invariant-loop-k
+invariant-loop-k l =
+    (text : List ℕ) × (Laid l.initial.out l.out l.at l.p text × (text ++ members l.others (bits_set l.bits (64 - l.k) (l.first + l.k)) ≡ members false (bits_set l.bits 64 l.first)))

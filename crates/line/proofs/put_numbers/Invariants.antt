@@ -1,13 +1,8 @@
--- `put_numbers` meets its contract: at each turn the numbers that are left, laid from here on, give the whole.
-use Prim.Native.Nat.{◌-◌, ◌≤◌}
-use lib.ListN.{length, drop}
+-- The texts of the numbers so far are laid.
+use lib.ListN.{take}
 use Rattle.line.specs.Digits.{each}
-use Rattle.line.specs.Writing.{spaced}
-use Rattle.line.proofs.WritingLaws.{Onward}
+use Rattle.line.specs.Writing.{Laid, spaced}
 use Rattle.line.proofs.put_numbers.Given as goal
 
-abbrev pub invariant-loop-i : goal.invariant-loop-i
-invariant-loop-i l = (l.i ≤ length l.list) × Onward l.out l.p (each spaced (drop l.i l.list)) l.initial.out l.at (each spaced l.list)
-
-abbrev pub decreases-loop-i : goal.decreases-loop-i
-decreases-loop-i l = length l.list - l.i
+abbrev pub invariant-loop-n : goal.invariant-loop-n
+invariant-loop-n l = Laid l.initial.out l.out l.at l.p (each spaced (take l.n-index l.list))

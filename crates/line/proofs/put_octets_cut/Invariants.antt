@@ -1,12 +1,8 @@
--- `put_octets_cut` meets its contract: at each turn the bytes that are left, laid from here on, give the whole.
-use Prim.Native.Nat.{◌-◌, ◌≤◌}
-use lib.ListN.{length, drop}
+-- The texts of the bytes so far are laid.
+use lib.ListN.{take}
 use Rattle.line.specs.Digits.{each, hex_of}
-use Rattle.line.proofs.WritingLaws.{Onward}
+use Rattle.line.specs.Writing.{Laid}
 use Rattle.line.proofs.put_octets_cut.Given as goal
 
-abbrev pub invariant-loop-i : goal.invariant-loop-i
-invariant-loop-i l = (l.i ≤ length l.s) × Onward l.out l.p (each hex_of (drop l.i l.s)) l.initial.out l.at (each hex_of l.s)
-
-abbrev pub decreases-loop-i : goal.decreases-loop-i
-decreases-loop-i l = length l.s - l.i
+abbrev pub invariant-loop-b : goal.invariant-loop-b
+invariant-loop-b l = Laid l.initial.out l.out l.at l.p (each hex_of (take l.b-index l.s))

@@ -1,5 +1,6 @@
 -- What the check tells of a chain is seen of a runner at the door of its first sequence.
 -- Assumes nothing.
+use Rattle.std.specs.Prelude.{Result, Ok, Err}
 use Prim.Native.Nat.{ℕ, zero, suc, ◌≤◌}
 use native.Mathlib.Omega.{arith}
 use mathlib.Core.Path.{◌≡◌, refl, sym, ap, ◌∙◌, subst}
@@ -11,8 +12,6 @@ use Rattle.octets.proofs.Bools.{by-test}
 use Rattle.memory.specs.declared.Format.{Format}
 use Rattle.memory.proofs.Laws.{Fair}
 use Rattle.sequence.specs.declared.Fault.{Fault}
-use Rattle.sequence.specs.declared.Header.{Header}
-use Rattle.sequence.specs.declared.Header.TheVariants.{Repeats, Bad}
 use Rattle.sequence.specs.Text.{fault, header_of}
 use Rattle.sequence.specs.Starts.{among}
 use Rattle.sequence.specs.Env.{Env, env_of, text_of}
@@ -29,7 +28,7 @@ use Rattle.survey.specs.declared.Ending.TheVariants.{Unlisted, Finishes, Returns
 use Rattle.survey.specs.declared.Reason.{Reason}
 use Rattle.survey.specs.Chain.{Told}
 use Rattle.survey.specs.Report.{EndingShown}
-use Rattle.unit.specs.declared.Outcome.{Outcome}
+use Rattle.unit.specs.Step.{Outcome}
 use Rattle.promises.specs.Runs.{ShownAs, idle, quiet, positions_seen, position_shown, Run, done, more, Aborts, after_steps, sights_of, AllQuiet, Quiet, AtDoor}
 use Rattle.promises.specs.Kept.{Ran, AtRest, IsPassed}
 use Rattle.promises.specs.Positions.{NonePast}
@@ -98,9 +97,9 @@ module _ (E : Env) (seqs : List ℕ) where
       at : Runner
       at = door n s.raster m s.rounds
 
-      go : (h : Header) → quiet (entered_by at h).event ≡ true → (entered_by at h).event ≡ Enter n
-      go (Repeats k) q = refl
-      go (Bad f) q = absurd (false≢true q)
+      go : (h : Result ℕ Fault) → quiet (entered_by at h).event ≡ true → (entered_by at h).event ≡ Enter n
+      go (Ok k) q = refl
+      go (Err f) q = absurd (false≢true q)
 
   -- at a fault the run has not stopped yet, and the abort stops it
   at-fault : (s : Runner) {n : ℕ} {fault : Fault} → (step_of E seqs s).event ≡ Abort fault.code n fault.place → (s.running ≡ true) × ((step_of E seqs s).runner.running ≡ false)

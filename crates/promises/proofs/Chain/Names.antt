@@ -1,4 +1,5 @@
 -- The names that the check lists are the chain's, no one of them twice, and a fault's reason is right. Assumes nothing.
+use Rattle.std.specs.Prelude.{Ok, Err}
 use Prim.Native.Nat.{ℕ, zero, suc, ◌≤◌}
 use native.Mathlib.Omega.{arith}
 use mathlib.Core.Path.{◌≡◌, refl, sym, subst, ◌∙◌}
@@ -10,8 +11,7 @@ use Rattle.octets.proofs.Bools.{by-test}
 use Rattle.memory.specs.declared.Format.{Format}
 use Rattle.memory.specs.Memory.{entry_of}
 use Rattle.sequence.specs.declared.Fault.{Fault}
-use Rattle.sequence.specs.declared.ListCard.{ListCard}
-use Rattle.sequence.specs.declared.ListCard.TheVariants.{Good, Bad}
+use Rattle.sequence.specs.LineList.{ListCard}
 use Rattle.sequence.specs.Starts.{among}
 use Rattle.sequence.specs.Raster.{raster_at}
 use Rattle.sequence.specs.Env.{Env, env_of, text_of}
@@ -99,8 +99,8 @@ module _ (F : Format) (lists seqs : List ℕ) where
 
   -- ── a fault's reason
   seven-for : (card : ListCard) (science : ℕ) (reason : Reason) → reason ≡ reason_in card → ListRefused card science → SevenFor card science reason
-  seven-for (Good marks) science reason e missing = (e, missing)
-  seven-for (Bad bad) science reason e _ = e
+  seven-for (Ok marks) science reason e missing = (e, missing)
+  seven-for (Err bad) science reason e _ = e
 
   fault-reasoned : (n : ℕ) (f : Fault) (reason : Reason) → found n ≡ faults f reason → Reasoned (entry_of F seqs n) lists f reason
   fault-reasoned n f reason says =

@@ -1,6 +1,7 @@
 -- The tables decide a chain: its names, whether it ends or returns, and why it has its fault. So a chain that returns lists what comes again as its
 -- last part.
 -- Assumes nothing.
+use Rattle.std.specs.Prelude.{Ok, Err}
 use Prim.Native.Nat.{ℕ, suc}
 use native.Mathlib.Omega.{arith}
 use mathlib.Core.Path.{◌≡◌, refl, sym, ap, subst, subst₂, ◌∙◌}
@@ -13,8 +14,7 @@ use Rattle.octets.proofs.Bools.{by-test}
 use Rattle.memory.specs.declared.Format.{Format}
 use Rattle.memory.specs.Memory.{entry_of}
 use Rattle.sequence.specs.declared.Fault.{Fault}
-use Rattle.sequence.specs.declared.ListCard.{ListCard}
-use Rattle.sequence.specs.declared.ListCard.TheVariants.{Good, Bad}
+use Rattle.sequence.specs.LineList.{ListCard}
 use Rattle.sequence.specs.Starts.{among}
 use Rattle.sequence.specs.Raster.{raster_at}
 use Rattle.sequence.specs.Env.{cards_of}
@@ -98,8 +98,8 @@ module _ (F : Format) (seqs lists : List ℕ) where
   told-why (then-called a c) = told-why c
 
   one-seven : (card : ListCard) (science : ℕ) {r r' : Reason} → SevenFor card science r → SevenFor card science r' → r ≡ r'
-  one-seven (Good marks) science (e, _) (e', _) = e ∙ sym e'
-  one-seven (Bad bad) science e e' = e ∙ sym e'
+  one-seven (Ok marks) science (e, _) (e', _) = e ∙ sym e'
+  one-seven (Err bad) science e e' = e ∙ sym e'
 
   pub one-reason : {listed listed' names names' : List ℕ} {n n' q : ℕ} {f : Fault} {r r' : Reason}
       → Chain F seqs lists listed n names (Faults q f r) → Chain F seqs lists listed' n' names' (Faults q f r') → r ≡ r'

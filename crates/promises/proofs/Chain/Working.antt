@@ -1,5 +1,6 @@
 -- A runner that runs is never idle, and stops where it aborts: so each step works until the chain's last command, or until the abort.
 -- Assumes nothing.
+use Rattle.std.specs.Prelude.{Result, Ok, Err}
 use Prim.Native.Nat.{ℕ, zero, suc, ◌+◌}
 use native.Mathlib.Omega.{arith}
 use mathlib.Core.Path.{◌≡◌, refl, sym, ap, ◌∙◌}
@@ -9,8 +10,6 @@ use lib.Dec.{ltb}
 use Rattle.octets.specs.Bytes.{byte_at}
 use Rattle.octets.proofs.Bools.{choice}
 use Rattle.sequence.specs.declared.Fault.{Fault}
-use Rattle.sequence.specs.declared.Header.{Header}
-use Rattle.sequence.specs.declared.Header.TheVariants.{Repeats, Bad}
 use Rattle.sequence.specs.Text.{fault, header_of}
 use Rattle.sequence.specs.Raster.{raster_at}
 use Rattle.sequence.specs.Env.{Env, text_of}
@@ -50,9 +49,9 @@ module _ (E : Env) (text : List ℕ) (s : Runner) where
   unfolding aborted
   aborted-fate f = (refl, λ h. refl)
 
-  entered-fate : (h : Header) → Fate (entered_by s h)
-  entered-fate (Repeats n) = (refl, calm)
-  entered-fate (Bad f) = aborted-fate f
+  entered-fate : (h : Result ℕ Fault) → Fate (entered_by s h)
+  entered-fate (Ok n) = (refl, calm)
+  entered-fate (Err f) = aborted-fate f
 
   act-fate : (a : Act) → Fate (act E.format text s a)
   unfolding act begun exposed looped delayed called ended

@@ -1,4 +1,5 @@
 -- Actions one after another: what is seen of them, how many are steps, and where they are cut. Assumes nothing.
+use Rattle.std.specs.Prelude.{Ok, Err}
 use Prim.Native.Nat.{ℕ, zero, suc, ◌+◌, ◌≤◌}
 use native.Mathlib.Omega.{arith}
 use mathlib.Core.Path.{◌≡◌, refl, ap}
@@ -6,8 +7,7 @@ use mathlib.Core.List.{List, [], ◌∷◌, ◌++◌}
 use lib.ListN.{length}
 use Rattle.memory.specs.declared.Format.{Format}
 use Rattle.runner.specs.declared.Event.{Event}
-use Rattle.unit.specs.declared.Outcome.{Outcome}
-use Rattle.unit.specs.declared.Outcome.TheVariants.{Denied, Saw}
+use Rattle.unit.specs.Step.{Outcome}
 use Rattle.promises.specs.Library.{Library}
 use Rattle.promises.specs.Demand3.{World, Action, step, packet, after, after_all, outcomes, Reached, acted, NeverCalledBack, events_of, All}
 
@@ -50,8 +50,8 @@ cut k acts h = let (first, rest, e, t) = go k acts h in
 
 pub events-append : (xs ys : List Outcome) → events_of (xs ++ ys) ≡ events_of xs ++ events_of ys
 events-append [] ys = refl
-events-append (Denied code ∷ xs) ys = events-append xs ys
-events-append (Saw e ∷ xs) ys = ap (λ (es : List Event). e ∷ es) (events-append xs ys)
+events-append (Err code ∷ xs) ys = events-append xs ys
+events-append (Ok e ∷ xs) ys = ap (λ (es : List Event). e ∷ es) (events-append xs ys)
 
 pub all_append : (P : Outcome → Type 0) (xs ys : List Outcome) → All P xs → All P ys → All P (xs ++ ys)
 all_append P [] ys a b = b

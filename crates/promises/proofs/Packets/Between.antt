@@ -1,5 +1,6 @@
 -- Packets between the steps change nothing of what is seen: the steps show what the runner shows by itself over the tables as they were at
 -- the start. Assumes nothing.
+use Rattle.std.specs.Prelude.{Ok}
 use Prim.Native.Nat.{ℕ}
 use mathlib.Core.Path.{◌≡◌, refl, sym, ap, ap₂, ◌∙◌}
 use mathlib.Core.Bool.{false}
@@ -16,8 +17,7 @@ use Rattle.runner.specs.declared.Event.TheVariants.{Idle, Enter, Raster, Exp, Lo
 use Rattle.runner.specs.Step.{step_of}
 use Rattle.runner.proofs.Laws.{step-idle}
 use Rattle.status.specs.declared.Control.{Control}
-use Rattle.unit.specs.declared.Outcome.{Outcome}
-use Rattle.unit.specs.declared.Outcome.TheVariants.{Saw}
+use Rattle.unit.specs.Step.{Outcome}
 use Rattle.unit.specs.Answer.{answer_of}
 use Rattle.promises.specs.Library.{ours}
 use Rattle.promises.specs.Range.{Shows}
@@ -31,7 +31,7 @@ use Rattle.promises.proofs.Range.Steady.{Steady, runner_step, step-shows, step-o
 
 abbrev pub saws : List Sight → List Outcome
 saws [] = []
-saws (v ∷ vs) = Saw v.event ∷ saws vs
+saws (v ∷ vs) = Ok v.event ∷ saws vs
 
 -- ── over the tables at the start
 module _ {F : Format} (seqs lists : List ℕ) where
@@ -71,7 +71,7 @@ module _ {F : Format} (seqs lists : List ℕ) where
       let rest = between acts (after ours step w) (steady-after step g) (ap (λ (c : Control). c.mode) (step-control g) ∙ m) xs (over-step g o) in
       record {
         shows =
-            ap₂ (λ (y : Outcome) (ys : List Outcome). y ∷ ys) (step-outcome g ∙ ap (λ (r : Stepped). Saw r.event) same)
+            ap₂ (λ (y : Outcome) (ys : List Outcome). y ∷ ys) (step-outcome g ∙ ap (λ (r : Stepped). Ok r.event) same)
             (rest.shows ∙ ap (λ (s : Runner). saws (sights_of (env_of F lists) seqs (steps_in acts) s)) next);
         runner = rest.runner ∙ ap (after_steps (env_of F lists) seqs (steps_in acts)) next;
         auto = rest.auto;

@@ -1,5 +1,6 @@
 -- What is given exactly when a row holds, for anything that a table's code decides; and the tables of the step, the check and the window.
 -- Assumes nothing.
+use Rattle.std.specs.Prelude.{Ok, Err}
 use Prim.Native.Nat.{ℕ, suc, ◌-◌, ◌<◌}
 use native.Mathlib.Omega.{arith}
 use mathlib.Core.Path.{◌≡◌, refl, sym, ap, ◌∙◌}
@@ -24,8 +25,8 @@ use Rattle.survey.specs.declared.Ending.{Ending}
 use Rattle.survey.specs.declared.Ending.TheVariants.{Unlisted, Finishes, Returns, Faults}
 use Rattle.survey.specs.Walk.{Finding, passes, faults, finding_of}
 use Rattle.survey.specs.Chain.{Told, told, onward, follow, chain_of, check_rows, check_of}
+use Rattle.unit.specs.Step.{Outcome}
 use Rattle.unit.specs.declared.Unit.{Unit as ControlUnit}
-use Rattle.unit.specs.declared.Outcome.TheVariants.{Denied, Saw}
 use Rattle.unit.specs.declared.UnitStep.{UnitStep}
 use Rattle.unit.specs.State.{out_of_range}
 use Rattle.unit.specs.Step.{step_rows, stepped, with_step, unit_step_by, unit_step}
@@ -75,39 +76,39 @@ module _ (F : Format) (u : ControlUnit) (seqs lists : List ℕ) where
   abbrev r : Stepped
   r = step_of (env_of F lists) seqs u.runner
 
-  outcome-picked : (unit_step F u seqs lists).outcome ≡ cond (eqb (first_code (step_rows F u seqs lists)) 0) (Saw r.event) (Denied (first_code (step_rows F u seqs lists)))
+  outcome-picked : (unit_step F u seqs lists).outcome ≡ cond (eqb (first_code (step_rows F u seqs lists)) 0) (Ok r.event) (Err (first_code (step_rows F u seqs lists)))
   unfolding unit_step with_step
   outcome-picked = go (eqb (first_code (step_rows F u seqs lists)) 0)
     where
-      go : (b : Bool) → (cond b (with_step u r) (stepped (Denied (first_code (step_rows F u seqs lists))) u)).outcome ≡ cond b (Saw r.event) (Denied (first_code (step_rows F u seqs lists)))
+      go : (b : Bool) → (cond b (with_step u r) (stepped (Err (first_code (step_rows F u seqs lists))) u)).outcome ≡ cond b (Ok r.event) (Err (first_code (step_rows F u seqs lists)))
       go true = refl
       go false = refl
 
-saw-apart : (e : Event) (k : ℕ) → Saw e ≡ Denied k → ⊥
+saw-apart : (e : Event) (k : ℕ) → ◌≡◌ {A = Outcome} (Ok e) (Err k) → ⊥
 saw-apart e k h = let z : ◌≡◌ {A = ℕ} 0 1 = cc in omega arith
 
-denied-tells : (k c : ℕ) → Denied k ≡ Denied c → k ≡ c
+denied-tells : (k c : ℕ) → ◌≡◌ {A = Outcome} (Err k) (Err c) → k ≡ c
 denied-tells k c h = cc
 
 pub step-accepted-exactly : (F : Format) → StepAcceptedExactly F ours
 unfolding step_rows
 step-accepted-exactly F u seqs lists =
-    rw outcome-picked (picked-exactly (step_rows F u seqs lists) tt (Saw (r F u seqs lists).event) Denied (saw-apart (r F u seqs lists).event) denied-tells)
+    rw outcome-picked (picked-exactly (step_rows F u seqs lists) tt (Ok (r F u seqs lists).event) Err (saw-apart (r F u seqs lists).event) denied-tells)
 
 pub step-code-exactly : (F : Format) → StepCodeExactly F ours
 unfolding step_rows
 step-code-exactly F u seqs lists =
-    rw outcome-picked (given-exactly (step_rows F u seqs lists) tt (Saw (r F u seqs lists).event) Denied (saw-apart (r F u seqs lists).event) denied-tells)
+    rw outcome-picked (given-exactly (step_rows F u seqs lists) tt (Ok (r F u seqs lists).event) Err (saw-apart (r F u seqs lists).event) denied-tells)
 
 -- a step is denied with 16 or 17, or it is the runner's
 by_code : (P : UnitStep → Type 0) (lent range : Bool) (u : ControlUnit) (r : Stepped)
-    → P (with_step u r) → P (stepped (Denied 16) u) → P (stepped (Denied 17) u) → P (unit_step_by (cond lent 16 (cond range 17 0)) u r)
+    → P (with_step u r) → P (stepped (Err 16) u) → P (stepped (Err 17) u) → P (unit_step_by (cond lent 16 (cond range 17 0)) u r)
 by_code P true range u r f g h = g
 by_code P false true u r f g h = h
 by_code P false false u r f g h = f
 
 pub step_case : (F : Format) (P : UnitStep → Type 0) (u : ControlUnit) (seqs lists : List ℕ)
-    → P (with_step u (step_of (env_of F lists) seqs u.runner)) → P (stepped (Denied 16) u) → P (stepped (Denied 17) u) → P (unit_step F u seqs lists)
+    → P (with_step u (step_of (env_of F lists) seqs u.runner)) → P (stepped (Err 16) u) → P (stepped (Err 17) u) → P (unit_step F u seqs lists)
 unfolding unit_step step_rows
 step_case F P u seqs lists = by_code P (tables_wrong F seqs lists) (out_of_range F u) u (step_of (env_of F lists) seqs u.runner)
 

@@ -75,7 +75,7 @@ module _ {F : Format} (u : ControlUnit) (g : InOrder F u) where
         abort = g.abort;
         selection = inl h;
         list = g.list;
-        runner = record { sequence = inl h; place = (let l = g.runner.place in omega arith); raster = g.runner.raster; count = g.runner.count; mirror = g.runner.mirror; known = λ r. h };
+        runner = record { sequence = inl h; place = let l = g.runner.place in omega arith; raster = g.runner.raster; count = g.runner.count; mirror = g.runner.mirror; known = λ r. h };
         auto = λ r. ((g.auto r).0, h);
       }
 
@@ -89,7 +89,7 @@ module _ {F : Format} (u : ControlUnit) (g : InOrder F u) where
         abort = omega arith;
         selection = g.selection;
         list = g.list;
-        runner = record { sequence = inl h; place = (let l = g.runner.place in omega arith); raster = inr refl; count = g.runner.count; mirror = g.runner.mirror; known = λ r. h };
+        runner = record { sequence = inl h; place = let l = g.runner.place in omega arith; raster = inr refl; count = g.runner.count; mirror = g.runner.mirror; known = λ r. h };
         auto = λ r. (e, h);
       }
 

@@ -1,5 +1,6 @@
 -- The tests that refuse packets, as propositions: sizes, the state's range, and ranges of memory.
 -- Assumes nothing.
+use Rattle.std.specs.Prelude.{Option, Some, None}
 use Prim.Native.Nat.{ℕ, ◌+◌, ◌-◌, ◌≤◌}
 use native.Mathlib.Omega.{arith}
 use mathlib.Core.Path.{◌≡◌, refl, ap}
@@ -11,8 +12,7 @@ use lib.ListN.{length}
 use borrow.Author.Tests.{lt-ltb, le-ltb, ltb-false, lt-leb, le-leb, leb-true, leb-false, eq-eqb, ne_eqb, eqb-true, eqb-false, not-false}
 use Rattle.octets.proofs.Bools.{and_both, or-neither, choice}
 use Rattle.memory.specs.declared.Format.{Format}
-use Rattle.memory.specs.declared.Addressed.{Addressed}
-use Rattle.memory.specs.declared.Addressed.TheVariants.{Known, Nowhere}
+use Rattle.memory.specs.declared.Address.{Address}
 use Rattle.memory.specs.declared.Range.{Range}
 use Rattle.memory.specs.declared.Range.TheVariants.{Sequences, LineLists, Wrong}
 use Rattle.memory.specs.Memory.{tables_wrong, within, range_of, range_from, range_at, is_wrong}
@@ -190,9 +190,9 @@ module _ (a len : ℕ) where
   range-told : Told (range_at a len)
   unfolding range_at
   range-told =
-      let P : Addressed → Type 0 = λ x. Told (range_from x len) in
-      choice P (ltb a 0x070000) Nowhere _ (λ _ e. absurd (true≢false e))
-      (λ _. choice P (ltb a 0x075EC0) (Known (record { 0 = a })) Nowhere (λ _. of_range) (λ _ e. absurd (true≢false e)))
+      let P : Option Address → Type 0 = λ x. Told (range_from x len) in
+      choice P (ltb a 0x070000) None _ (λ _ e. absurd (true≢false e))
+      (λ _. choice P (ltb a 0x075EC0) (Some (record { 0 = a })) None (λ _. of_range) (λ _ e. absurd (true≢false e)))
 
   pub one-table-exactly : (is_wrong (range_at a len) ≡ false) ↔ InOneTable a len
   one-table-exactly = (

@@ -1,8 +1,9 @@
 -- Every step keeps the runner in range, whatever the tables hold.
 -- Assumes nothing.
+use Rattle.std.specs.Prelude.{Some, None, Result, Option}
 use Prim.Native.Nat.{ℕ, zero, suc, ◌+◌, ◌≤◌, ◌<◌}
 use native.Mathlib.Omega.{arith}
-use mathlib.Core.Path.{◌≡◌, refl, subst}
+use mathlib.Core.Path.{◌≡◌, refl, subst, sym, ap}
 use mathlib.Core.Bool.{Bool, true, false, cond, false≢true}
 use mathlib.Core.List.{List}
 use mathlib.Core.Logic.{inl, inr}
@@ -10,10 +11,8 @@ use lib.Dec.{ltb, eqb}
 use borrow.Author.Tests.{ltb-true, ltb-false}
 use Rattle.memory.specs.declared.Format.{Format}
 use Rattle.memory.specs.declared.Place.{Place}
-use Rattle.memory.specs.declared.Placed.TheVariants.{At, Outside}
 use Rattle.memory.specs.Memory.{place_at}
 use Rattle.sequence.specs.declared.Fault.{Fault}
-use Rattle.sequence.specs.declared.Header.{Header}
 use Rattle.sequence.specs.declared.Command.{Command}
 use Rattle.sequence.specs.declared.Command.TheVariants.{RunRaster, Expose, LoopBack, Delay}
 use Rattle.sequence.specs.Text.{fault, command_at, size_of, number_of}
@@ -24,7 +23,6 @@ use Rattle.runner.specs.declared.Runner.{Runner}
 use Rattle.runner.specs.declared.Stepped.{Stepped}
 use Rattle.runner.specs.declared.Event.TheVariants.{Idle}
 use Rattle.runner.specs.declared.Opened.{Opened}
-use Rattle.runner.specs.declared.Opened.TheVariants.{Shut, Open}
 use Rattle.runner.specs.declared.Act.{Act}
 use Rattle.runner.specs.Judge.{repeat_begun, set_of, judge}
 use Rattle.runner.specs.Step.{to, open_by, open_of, past, aborted, entered_by, entered, begun, advances, exposed_at, exposed, looped, delayed, another, called, ended, act, step_in, step_of}
@@ -36,12 +34,16 @@ use Rattle.promises.proofs.Text.Rules.{View, refused, opens, opens-again, expose
 use Rattle.promises.proofs.Text.Targets.{target-size}
 
 -- the raster that a runner holds open stands at a place
-open-held : (F : Format) (s : Runner) {r : Place} {c n : ℕ} → open_of F s ≡ Open r c n → (s.raster.place < F.size) × (c ≡ s.raster.count)
+open-held : (F : Format) (s : Runner) {r : Place} {c n : ℕ} → open_of F s ≡ Some (record { place = r; count = c; run = n }) → (s.raster.place < F.size) × (c ≡ s.raster.count)
 open-held F s {r} {c} {n} = go (eqb s.raster.place 255) (ltb s.raster.place F.size) refl
   where
-    go : (none b : Bool) → ltb s.raster.place F.size ≡ b → cond none Shut (open_by (cond b (At (place_at s.raster.place)) Outside) s.raster) ≡ Open r c n
+    count_in : Option Opened → ℕ
+    count_in None = 0
+    count_in (Some o) = o.count
+
+    go : (none b : Bool) → ltb s.raster.place F.size ≡ b → cond none None (open_by (cond b (Some (place_at s.raster.place)) None) s.raster) ≡ Some (record { place = r; count = c; run = n })
         → (s.raster.place < F.size) × (c ≡ s.raster.count)
-    go false true h e = (ltb-true s.raster.place F.size h, cc)
+    go false true h e = (ltb-true s.raster.place F.size h, ap count_in (sym e))
     go false false h e = let z : ◌≡◌ {A = ℕ} 0 1 = cc in absurd (omega arith)
     go true b h e = let z : ◌≡◌ {A = ℕ} 0 1 = cc in absurd (omega arith)
 
@@ -63,7 +65,7 @@ module _ (E : Env) (room : 4 < E.format.size) (seqs : List ℕ) (s : Runner) (ok
   enter-range : StepInRange E.format (entered text s)
   unfolding entered
   enter-range =
-      header-case (λ (h : Header). StepInRange E.format (entered_by s h)) text
+      header-case (λ (h : Result ℕ Fault). StepInRange E.format (entered_by s h)) text
       (λ some e. (record { sequence = ok.sequence; place = omega arith; raster = ok.raster; count = ok.count; mirror = ok.mirror; known = ok.known }, tt))
       (λ code place c l e. abort-range (fault code place) c (omega arith))
 
@@ -129,7 +131,7 @@ module _ (E : Env) (room : 4 < E.format.size) (seqs : List ℕ) (s : Runner) (ok
       choose (ltb 1 s.rounds) _ _ (λ h. another-range)
       (λ h. (record { sequence = ok.sequence; place = ok.place; raster = ok.raster; count = ok.count; mirror = ok.mirror; known = λ e. absurd (false≢true e) }, tt))
 
-  act-range : (o : Opened) (a : Act) → open_of E.format s ≡ o → View E text s.place o a → StepInRange E.format (act E.format text s a)
+  act-range : (o : Option Opened) (a : Act) → open_of E.format s ≡ o → View E text s.place o a → StepInRange E.format (act E.format text s a)
   unfolding act delayed size_of
   act-range o a e (refused {code} b) = abort-range (fault code s.place) b ok.place
   act-range o a e (opens k g) = begun-range k g (rw e (g.stays 0 g.repeats))

@@ -1,5 +1,6 @@
 -- Every state reached from power-on is in range, with tables of the right sizes: so no step of it is denied, and no exposure is past the stop.
 -- Assumes nothing.
+use Rattle.std.specs.Prelude.{Ok}
 use Prim.Native.Nat.{ℕ, ◌≤◌, ◌<◌}
 use native.Mathlib.Omega.{arith}
 use mathlib.Core.Path.{◌≡◌, refl, sym, ap, ◌∙◌, subst}
@@ -22,7 +23,6 @@ use Rattle.runner.proofs.Laws.{step-idle}
 use Rattle.status.specs.declared.Watch.{Watch}
 use Rattle.unit.specs.declared.Unit.{Unit as ControlUnit}
 use Rattle.unit.specs.declared.UnitStep.{UnitStep}
-use Rattle.unit.specs.declared.Outcome.TheVariants.{Saw}
 use Rattle.unit.specs.State.{power_on}
 use Rattle.unit.specs.Answer.{answer_of}
 use Rattle.status.specs.State.{watched}
@@ -81,7 +81,7 @@ watched-order (Abort code n place) w x l a = (l, x)
 
 -- ── the unit after a step, part by part
 module _ {F : Format} {w : World F} (g : Steady w) where
-  pub step-outcome : (ours.steps F w.unit w.seqs w.lists).outcome ≡ Saw (runner_step w).event
+  pub step-outcome : (ours.steps F w.unit w.seqs w.lists).outcome ≡ Ok (runner_step w).event
   unfolding with_step
   step-outcome = ap (λ (r : UnitStep). r.outcome) (step_is g)
 

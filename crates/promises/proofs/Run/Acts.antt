@@ -1,6 +1,7 @@
 -- A step of a run is decided by the rows that refuse it: with no row that holds it works, and with a code it aborts with that code. Every fact
 -- of demands 1 and 2 about steps follows from this.
 -- Assumes nothing.
+use Rattle.std.specs.Prelude.{Ok, Err, Option, Some, None}
 use Prim.Native.Nat.{ℕ, ◌+◌, ◌<◌}
 use native.Mathlib.Omega.{arith}
 use mathlib.Core.Path.{◌≡◌, refl, subst}
@@ -15,7 +16,6 @@ use Rattle.octets.proofs.Laws.{first-joined}
 use Rattle.memory.specs.declared.Place.{Place}
 use Rattle.sequence.specs.declared.Command.{Command}
 use Rattle.sequence.specs.declared.Command.TheVariants.{RunRaster, Expose, LoopBack, CallSequence, Terminate, Delay, Nothing, Unknown, Unfit}
-use Rattle.sequence.specs.declared.Header.TheVariants.{Repeats, Bad}
 use Rattle.sequence.specs.Text.{fault, header_rows, header_place, header_of, command_at}
 use Rattle.sequence.specs.Raster.{raster_at}
 use Rattle.sequence.specs.Env.{Env}
@@ -23,7 +23,6 @@ use Rattle.runner.specs.declared.Runner.{Runner}
 use Rattle.runner.specs.declared.Stepped.{Stepped}
 use Rattle.runner.specs.declared.Event.{Event}
 use Rattle.runner.specs.declared.Opened.{Opened}
-use Rattle.runner.specs.declared.Opened.TheVariants.{Shut, Open}
 use Rattle.runner.specs.declared.Act.{Act}
 use Rattle.runner.specs.declared.Act.TheVariants.{Refused, Opens, Exposes, Loops, Waits, Calls, Ends}
 use Rattle.runner.specs.Judge.{path_rows, raster_rows, run_rows, expose_rows, loop_rows, close_rows, unless, judged, judge}
@@ -103,7 +102,7 @@ module _ (E : Env) (text : List ℕ) (s : Runner) where
   unfolding act begun
   opens-work = refl
 
-  exposes-decide : (r : Place) → DecidesAct (first_code (advance_rows text s (Open r 0 0))) (Exposes r)
+  exposes-decide : (r : Place) → DecidesAct (first_code (advance_rows text s (Some (record { place = r; count = 0; run = 0 })))) (Exposes r)
   unfolding act exposed
   exposes-decide r = if-both (λ _. s.place) s (advances (raster_at text r.0) s) (ltb 2400 (s.mirror + (raster_at text r.0).step)) 14 _ _ (omega arith) refl refl
 
@@ -112,15 +111,15 @@ module _ (E : Env) (text : List ℕ) (s : Runner) where
   calls-decide n = if-not (λ _. s.place) s (ltb 1 s.rounds) (ltb E.format.last n) 4 _ _ (omega arith) refl refl
 
   -- ── the commands
-  expose-coded : (time : ℕ) (o : Opened) → T (coded (expose_rows text time o ++ advance_rows text s o))
+  expose-coded : (time : ℕ) (o : Option Opened) → T (coded (expose_rows text time o ++ advance_rows text s o))
   unfolding expose_rows
-  expose-coded time Shut = tt
-  expose-coded time (Open r c n) = tt
+  expose-coded time None = tt
+  expose-coded time (Some o) = tt
 
-  expose-decides : (time : ℕ) (o : Opened) → DecidesAct (first_code (expose_rows text time o ++ advance_rows text s o)) (judged E.cards text s.place o (Expose time))
+  expose-decides : (time : ℕ) (o : Option Opened) → DecidesAct (first_code (expose_rows text time o ++ advance_rows text s o)) (judged E.cards text s.place o (Expose time))
   unfolding judged expose_rows act
-  expose-decides time Shut = at-fault (λ _. s.place) s 3 (omega arith)
-  expose-decides time (Open r c n) = by_rows (expose_rows text time (Open r c n)) (advance_rows text s (Open r c n)) (Exposes r) tt (exposes-decide r)
+  expose-decides time None = at-fault (λ _. s.place) s 3 (omega arith)
+  expose-decides time (Some o) = by_rows (expose_rows text time (Some o)) (advance_rows text s (Some o)) (Exposes o.place) tt (exposes-decide o.place)
 
   command-decides : (k : Command) → DecidesAct (first_code (command_rows E text s k)) (judged E.cards text s.place (open_of E.format s) k)
   unfolding judged run_rows raster_rows path_rows close_rows act delayed
@@ -139,7 +138,7 @@ module _ (E : Env) (text : List ℕ) (s : Runner) where
   unfolding entered header_of
   enter-decides = go (first_code (header_rows text)) (eqb (first_code (header_rows text)) 0) refl
     where
-      go : (k : ℕ) (b : Bool) → eqb k 0 ≡ b → Decides k header_place s (entered_by s (cond b (Repeats (byte_at text 3)) (Bad (fault k (header_place k)))))
+      go : (k : ℕ) (b : Bool) → eqb k 0 ≡ b → Decides k header_place s (entered_by s (cond b (Ok (byte_at text 3)) (Err (fault k (header_place k)))))
       go k true e = record { obeyed = λ _. refl; refused = λ h. absurd (omega (arith, eqb-true k 0 e)) }
       go k false e = record { obeyed = λ z. absurd (eqb-false k 0 e z); refused = λ _. refl }
 

@@ -1,4 +1,5 @@
 -- An event that shows what IDLE, ENTER or ABORT shows is that event; an ending is told by its number and values. Assumes nothing.
+use Rattle.std.specs.Prelude.{Ok, Err}
 use Prim.Native.Nat.{ℕ}
 use mathlib.Core.Path.{◌≡◌, refl, sym, ap, subst, ◌∙◌}
 use mathlib.Core.Bool.{Bool, true, cond, ◌||◌, false≢true}
@@ -13,8 +14,7 @@ use Rattle.survey.specs.declared.Ending.{Ending}
 use Rattle.survey.specs.declared.Ending.TheVariants.{Unlisted, Finishes, Returns, Faults}
 use Rattle.survey.specs.declared.Reason.{Reason}
 use Rattle.survey.specs.Report.{EndingShown, ending_shown, reason_of}
-use Rattle.unit.specs.declared.Outcome.{Outcome}
-use Rattle.unit.specs.declared.Outcome.TheVariants.{Denied, Saw}
+use Rattle.unit.specs.Step.{Outcome}
 use Rattle.promises.specs.Runs.{ShownAs, Showing}
 use Rattle.promises.specs.Kept.{IsPassed}
 use Rattle.promises.specs.Demand3.{Ends, ComesBack, EndsOrReturns, HasFault}
@@ -45,9 +45,9 @@ back (Abort code n place) h = refl
 pub event-shown : (e : Event) (seen : Shown) → ShownAs e seen → known seen ≡ true → e ≡ event_of seen
 event-shown e seen h k = sym (back e (ap known (h 0) ∙ k)) ∙ ap event_of (h 0)
 
-pub outcome-shown : (o : Outcome) (seen : Shown) → Showing o seen → known seen ≡ true → o ≡ Saw (event_of seen)
-outcome-shown (Denied code) seen h k = absurd h
-outcome-shown (Saw e) seen h k = ap Saw (event-shown e seen h k)
+pub outcome-shown : (o : Outcome) (seen : Shown) → Showing o seen → known seen ≡ true → o ≡ Ok (event_of seen)
+outcome-shown (Err code) seen h k = absurd h
+outcome-shown (Ok e) seen h k = ap Ok (event-shown e seen h k)
 
 -- ── endings
 ending_of : Reason → EndingShown → Ending

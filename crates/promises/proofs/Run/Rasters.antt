@@ -1,5 +1,6 @@
 -- The interpreter runs along a whole raster and shows its repeats and passes. The mirror in a pass is a function of the set's count.
 -- Assumes nothing.
+use Rattle.std.specs.Prelude.{Some}
 use Prim.Native.Nat.{ℕ, zero, suc, ◌+◌, ◌*◌, ◌-◌, ◌≤◌, ◌<◌}
 use native.Mathlib.Omega.{arith}
 use native.Mathlib.Nat.{mod-lt, mod-eq_of_lt}
@@ -20,7 +21,6 @@ use Rattle.sequence.specs.Env.{Env, text_of}
 use Rattle.runner.specs.declared.OpenRaster.{OpenRaster}
 use Rattle.runner.specs.declared.Runner.{Runner}
 use Rattle.runner.specs.declared.Event.TheVariants.{Exp}
-use Rattle.runner.specs.declared.Opened.TheVariants.{Open}
 use Rattle.runner.specs.declared.Act.TheVariants.{Exposes}
 use Rattle.runner.specs.Judge.{set_of, judge}
 use Rattle.runner.specs.Step.{to, step_of}
@@ -73,7 +73,7 @@ module _ (E : Env) (seqs : List ℕ) (n : ℕ) where
     raster = raster_at text r
 
     -- an exposure, in a pass that began at m
-    step-exposes : (p c ps : ℕ) (rs : Turn) (m q : ℕ) → judge E.cards text p (Open (place_at r) c rs.run) ≡ Exposes (place_at r) → c < set_of raster → (1 < ps → m + raster.step ≤ 2400)
+    step-exposes : (p c ps : ℕ) (rs : Turn) (m q : ℕ) → judge E.cards text p (Some (record { place = place_at r; count = c; run = rs.run })) ≡ Exposes (place_at r) → c < set_of raster → (1 < ps → m + raster.step ≤ 2400)
         → step_of E seqs (on n p r c ps rs (mirror_in raster (ltb 1 ps) m c) q)
         ≡ to (Exp m) (on n (p + size_at text p) r (c + 1) ps rs (mirror_in raster (ltb 1 ps) m (c + 1)) q)
     step-exposes p c ps rs m q j h b = rw (mirror-below raster (ltb 1 ps) m c h) (go (ltb 1 ps && eqb (c + 1) (set_of raster)) refl)

@@ -1,5 +1,6 @@
 -- The interpreter runs along the text of a round, and round after round up to the last closing command.
 -- Assumes nothing.
+use Rattle.std.specs.Prelude.{None}
 use Prim.Native.Nat.{ℕ, zero, suc, ◌+◌, ◌-◌, ◌≤◌, ◌<◌}
 use native.Mathlib.Omega.{arith}
 use mathlib.Core.Path.{◌≡◌, refl, sym, ap, ◌∙◌}
@@ -15,7 +16,6 @@ use Rattle.runner.specs.declared.OpenRaster.{OpenRaster}
 use Rattle.runner.specs.declared.Runner.{Runner}
 use Rattle.runner.specs.declared.Sight.{Sight}
 use Rattle.runner.specs.declared.Event.TheVariants.{Raster, Abort}
-use Rattle.runner.specs.declared.Opened.TheVariants.{Shut}
 use Rattle.runner.specs.Judge.{judge}
 use Rattle.runner.specs.Step.{step_of}
 use Rattle.survey.specs.declared.Item.{Item}
@@ -57,7 +57,7 @@ end-start : (text : List ℕ) (items : List Item) (m r : ℕ) → end_of text it
 end-start text items m zero = refl
 end-start text items m (suc r) = ⊎_elim (λ f. f (end_of text items m) m) (λ f. f (end_of text items m)) (end-or text items)
 
-closing-judged : {E : Env} {text : List ℕ} {p e : ℕ} {items : List Item} {closing : Closing} → Body E text p items (closed e closing) → judge E.cards text e Shut ≡ closing_act closing
+closing-judged : {E : Env} {text : List ℕ} {p e : ℕ} {items : List Item} {closing : Closing} → Body E text p items (closed e closing) → judge E.cards text e None ≡ closing_act closing
 closing-judged (closes closing j) = j
 closing-judged (pauses j b) = closing-judged b
 closing-judged (scans R b) = closing-judged b
@@ -107,7 +107,7 @@ module _ (E : Env) (fair : Fair E.format) (seqs : List ℕ) (n : ℕ) where
         (s', rw (z.is, ← append-nil (body_sights text n items (round_start text items m r)), ← none) ran, rw (end-start text items m r) at z')
 
     -- the closing command with rounds left, and in the last round
-    next-round : (c : Closing) (d : OpenRaster) (k : ℕ) → judge E.cards text e Shut ≡ closing_act c
+    next-round : (c : Closing) (d : OpenRaster) (k : ℕ) → judge E.cards text e None ≡ closing_act c
         → Run E seqs (out n e d final (suc (suc k))) (close_sight n e c (suc k) final ∷ []) (out n 4 d final (suc k))
     next-round Terminates d k j =
         let w : suc (suc k) - 1 ≡ suc k = omega arith in
@@ -116,7 +116,7 @@ module _ (E : Env) (fair : Fair E.format) (seqs : List ℕ) (n : ℕ) where
         let w : suc (suc k) - 1 ≡ suc k = omega arith in
         one (rw w at (step-round-call E seqs n e d final (suc (suc k)) j (omega arith))) refl
 
-    leave : (c : Closing) (d : OpenRaster) → Known E c → judge E.cards text e Shut ≡ closing_act c
+    leave : (c : Closing) (d : OpenRaster) → Known E c → judge E.cards text e None ≡ closing_act c
         → (s' : Runner) × Run E seqs (out n e d final 1) (close_sight n e c 0 final ∷ []) s' × After E c final s'
     unfolding After
     leave Terminates d w j = (_, one (step-ends E seqs n e d final 1 j (omega arith)) refl, refl)

@@ -1,5 +1,6 @@
 -- A raster's line of commands splits at a good loop target: "the start of a command .. at or before this raster's first exposure".
 -- Assumes nothing.
+use Rattle.std.specs.Prelude.{None}
 use Prim.Native.Nat.{ℕ, suc, ◌+◌, ◌≤◌, ◌<◌}
 use native.Mathlib.Omega.{arith}
 use mathlib.Core.Path.{◌≡◌, refl}
@@ -17,7 +18,6 @@ use Rattle.sequence.specs.Starts.{starts_of, among, first_exposure, target_good}
 use Rattle.sequence.specs.Raster.{raster_at}
 use Rattle.sequence.specs.Env.{Env}
 use Rattle.sequence.proofs.Hops.{Hops, here, hop, hops-le, hops-snoc, hops-from, start-hops, First, first-exposure}
-use Rattle.runner.specs.declared.Opened.TheVariants.{Shut}
 use Rattle.runner.specs.declared.Act.TheVariants.{Opens, Exposes, Waits}
 use Rattle.runner.specs.Judge.{set_of, judge}
 use Rattle.survey.proofs.Counts.{peel}
@@ -76,7 +76,7 @@ target-size text r q t g =
     (start-hops text (length text) 4 t (and_both (among t (starts_of text)) (leb t (first_exposure text r q (starts_of text))) rest).0).1.1
 
 -- the raster at r, up to its loop back at q with a good target t
-pub target-split : (E : Env) (text : List ℕ) (r q t c len a : ℕ) → Hops text 4 r a → judge E.cards text r Shut ≡ Opens → Line E text r (r + size_at text r) 0 len q c → 0 < c
+pub target-split : (E : Env) (text : List ℕ) (r q t c len a : ℕ) → Hops text 4 r a → judge E.cards text r None ≡ Opens → Line E text r (r + size_at text r) 0 len q c → 0 < c
     → target_good text r q t ≡ true → (k : ℕ) × Hops text (r + size_at text r) t k × Split E text r (r + size_at text r) t q c len k
 unfolding target_good starts_of
 target-split E text r q t c len a s j l z g =

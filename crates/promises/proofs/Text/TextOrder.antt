@@ -1,5 +1,6 @@
 -- The commands of a text that the check passes, in text order: their places beside the items that the check finds.
 -- So the rasters found are the run rasters among the starts of commands, and the closing command is the last. Assumes nothing.
+use Rattle.std.specs.Prelude.{Option, None}
 use Prim.Native.Nat.{ℕ, zero, suc, ◌+◌, ◌-◌, ◌≤◌, ◌<◌}
 use native.Mathlib.Omega.{arith}
 use mathlib.Core.Path.{◌≡◌, refl, sym, ap, subst, ◌∙◌}
@@ -18,7 +19,6 @@ use Rattle.sequence.specs.Env.{Env}
 use Rattle.sequence.proofs.Laws.{size-inside, none_last, starts-off, starts-on}
 use Rattle.sequence.proofs.Hops.{hops-le}
 use Rattle.runner.specs.declared.Opened.{Opened}
-use Rattle.runner.specs.declared.Opened.TheVariants.{Shut}
 use Rattle.runner.specs.declared.Act.{Act}
 use Rattle.runner.specs.declared.Act.TheVariants.{Refused, Opens, Exposes, Loops, Waits, Calls, Ends}
 use Rattle.runner.specs.Judge.{close_rows, judge}
@@ -69,7 +69,7 @@ module _ (E : Env) (text : List ℕ) (p : ℕ) where
   stands : (k : Command) → command_at text p ≡ k → 0 < size_of (number_of k) → is_run_raster k ≡ false → is_loop_back k ≡ false → (0 < size_at text p) × Inner text p
   stands k e s r l = (size-some E text p k e s, (rw e r, rw e l))
 
-  inner : (o : Opened) (a : Act) → IsInner a → View E text p o a → (0 < size_at text p) × Inner text p
+  inner : (o : Option Opened) (a : Act) → IsInner a → View E text p o a → (0 < size_at text p) × Inner text p
   unfolding size_of
   inner o a x (refused b) = absurd x
   inner o a x (opens k g) = absurd x
@@ -80,22 +80,22 @@ module _ (E : Env) (text : List ℕ) (p : ℕ) where
   inner o a x (calls {n} k) = stands (CallSequence n) k (omega arith) refl refl
   inner o a x (ends k) = stands Terminate k (omega arith) refl refl
 
-  by-judge : (o : Opened) (a : Act) → IsInner a → judge E.cards text p o ≡ a → (0 < size_at text p) × Inner text p
+  by-judge : (o : Option Opened) (a : Act) → IsInner a → judge E.cards text p o ≡ a → (0 < size_at text p) × Inner text p
   by-judge o a x j = inner o a x (view_of E text p o a j)
 
-  loops-there : (o : Opened) (t : ℕ) → View E text p o (Loops t) → (0 < size_at text p) × (command_at text p ≡ LoopBack t)
+  loops-there : (o : Option Opened) (t : ℕ) → View E text p o (Loops t) → (0 < size_at text p) × (command_at text p ≡ LoopBack t)
   unfolding size_of
   loops-there o t (loops k h g) = (size-some E text p (LoopBack t) k (omega arith), k)
 
   -- a closing command stands last
-  ends-text : NoneHolds (close_rows text p Shut) → p + size_at text p ≡ limit text
+  ends-text : NoneHolds (close_rows text p None) → p + size_at text p ≡ limit text
   unfolding close_rows
   ends-text n = eqb-true (p + size_at text p) (limit text) (not-false (eqb (p + size_at text p) (limit text)) n.1.0)
 
-  closes-last : (closing : Closing) → judge E.cards text p Shut ≡ closing_act closing → View E text p Shut (closing_act closing)
+  closes-last : (closing : Closing) → judge E.cards text p None ≡ closing_act closing → View E text p None (closing_act closing)
       → (p + size_at text p ≡ limit text) × (command_at text p ≡ command_of closing)
-  closes-last Terminates j (ends k) = (ends-text (subst (λ (y : Command). NoneHolds (own_rows E text p Shut y)) k (tells E text p Shut Ends j)), k)
-  closes-last (CallsOn n) j (calls k) = (ends-text (subst (λ (y : Command). NoneHolds (own_rows E text p Shut y)) k (tells E text p Shut (Calls n) j)), k)
+  closes-last Terminates j (ends k) = (ends-text (subst (λ (y : Command). NoneHolds (own_rows E text p None y)) k (tells E text p None Ends j)), k)
+  closes-last (CallsOn n) j (calls k) = (ends-text (subst (λ (y : Command). NoneHolds (own_rows E text p None y)) k (tells E text p None (Calls n) j)), k)
 
 closing-inner : (c : Closing) → IsInner (closing_act c)
 closing-inner Terminates = tt
@@ -157,14 +157,14 @@ line-order {E} {text} {r} {p'} (expose {p} {c} {len} j y l) f h =
 body-order : {E : Env} {text : List ℕ} {p e : ℕ} {items : List Item} {closing : Closing} → Body E text p items (closed e closing) → (f : ℕ) → length text ≤ p + f
     → Order text closing (starts text f p) items
 body-order {E} {text} (closes {p} closing j) f h =
-    let (z, i) = by-judge E text p Shut (closing_act closing) (closing-inner closing) j in
+    let (z, i) = by-judge E text p None (closing_act closing) (closing-inner closing) j in
     let (g, e, k) = next_start text f p h z in
-    let (there, command) = closes-last E text p closing j (view_of E text p Shut (closing_act closing) j) in
+    let (there, command) = closes-last E text p closing j (view_of E text p None (closing_act closing) j) in
     let none : size_at text (p + size_at text p) ≡ 0 = rw there (none_last text) in
     let same = e ∙ ap (λ (ps : List ℕ). p ∷ ps) (starts-off text g (p + size_at text p) (size_at text (p + size_at text p)) refl none) in
     subst (λ (ps : List ℕ). Order text closing ps []) (sym same) (last i command)
 body-order {E} {text} {closing} (pauses {p} {items} j b) f h =
-    let (z, i) = by-judge E text p Shut Waits tt j in
+    let (z, i) = by-judge E text p None Waits tt j in
     let (g, e, k) = next_start text f p h z in
     subst (λ (ps : List ℕ). Order text closing ps (Pause p ∷ items)) (sym e) (pause i (body-order b g k))
 body-order {E} {text} {closing} (scans {p} {t} {b = q} {before} {from} {items} R b) f h =

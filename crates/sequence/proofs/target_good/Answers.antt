@@ -2,11 +2,9 @@
 use Rattle.std.proofs.Common.{◌≡◌, ℕ, ◌+◌, Bool, false, List, sym, refl, ap, ◌∙◌, arith, le-ltb, lt-ltb}
 use Rattle.sequence.specs.Text.{size_of, size_at}
 use Rattle.sequence.specs.Starts.{target_good, starts_of}
-use Rattle.sequence.proofs.Laws.{size-named, next-inside}
 use Rattle.sequence.proofs.Targets.{leads, leads-off, leads-before}
 use Rattle.sequence.proofs.target_good.Goals as goal
 use Rattle.sequence.proofs.target_good.Goals.{In-loop-at}
-use Rattle.octets.specs.Bytes.{byte_at}
 
 -- ── a turn of the loop, whatever the command's branch
 module _ (turn : In-loop-at) where
@@ -32,15 +30,9 @@ module _ (turn : In-loop-at) where
   goes_on : (size : ℕ) → size ≡ size_at text at → (size ≡ 0 → ⊥) → target_good text raster turn.args.q.0 turn.args.t ≡ leads_from (at + size)
   goes_on size e z = turn.loop-at.invariant ∙ leads-before _ _ _ _ at size e z turn.if-target-raster.false turn.loop-at-test.true
 
--- a run raster takes its row's bytes
-raster-size : (text : List ℕ) (p n s : ℕ) → n ≡ byte_at text p → s ≡ size_at text p → (s ≡ 0 → ⊥) → n ≡ 144 → 23 ≡ size_at text p
-unfolding size_of
-raster-size text p n s e f z is = size-named _ _ _ _ 144 23 e f z is refl
-
--- and so does an expose
-expose-size : (text : List ℕ) (p n s : ℕ) → n ≡ byte_at text p → s ≡ size_at text p → (s ≡ 0 → ⊥) → n ≡ 145 → 3 ≡ size_at text p
-unfolding size_of
-expose-size text p n s e f z is = size-named _ _ _ _ 145 3 e f z is refl
+-- a command takes its row's bytes
+row-size : (op bytes number size byte here : ℕ) → size_of op ≡ bytes → number ≡ byte → size ≡ here → size ≡ size_of byte → number ≡ op → bytes ≡ here
+row-size op bytes number size byte here a b c d e = cc
 
 pub returns-then-target-raster : goal.returns-then-target-raster
 unfolding target_good
@@ -51,25 +43,25 @@ unfolding target_good starts_of
 loop-at-init c = rw (lt-ltb _ _ c.if-target-raster.false)
 
 pub returns-then-size_at-eq0 : goal.returns-then-size_at-eq0
-returns-then-size_at-eq0 c = stops (goal.at.returns-then-size_at-eq0 c).In-loop-at _ c.size_at.ensures c.if-size_at-eq0.true
+returns-then-size_at-eq0 c = stops (goal.at.returns-then-size_at-eq0 c).In-loop-at _ c.size_at.ensures.value c.if-size_at-eq0.true
 
 pub loop-at-preserved-then-number : goal.loop-at-preserved-then-number
-loop-at-preserved-then-number c = goes_on (goal.at.loop-at-preserved-then-number c).In-loop-at 23 (raster-size _ _ _ _ c.byte-number.ensures c.size_at.ensures c.if-size_at-eq0.false c.if-number.true) (λ z. omega arith)
+unfolding size_of
+loop-at-preserved-then-number c = let size = c.size_at.ensures in
+    goes_on (goal.at.loop-at-preserved-then-number c).In-loop-at 23
+    (row-size 144 23 _ _ _ _ refl c.byte-number.ensures size.value (size.whole c.if-size_at-eq0.false).0 c.if-number.true) (λ z. omega arith)
 
 pub returns-then-size_at-eq0-2 : goal.returns-then-size_at-eq0-2
-returns-then-size_at-eq0-2 c = stops (goal.at.returns-then-size_at-eq0-2 c).In-loop-at _ c.size_at-then-number-2.ensures c.if-size_at-eq0-2.true
+returns-then-size_at-eq0-2 c = stops (goal.at.returns-then-size_at-eq0-2 c).In-loop-at _ c.size_at-then-number-2.ensures.value c.if-size_at-eq0-2.true
 
 pub loop-at-preserved-then-number-2 : goal.loop-at-preserved-then-number-2
-loop-at-preserved-then-number-2 c = goes_on (goal.at.loop-at-preserved-then-number-2 c).In-loop-at 3 (expose-size _ _ _ _ c.byte-number.ensures c.size_at-then-number-2.ensures c.if-size_at-eq0-2.false c.if-number-2.true) (λ z. omega arith)
+unfolding size_of
+loop-at-preserved-then-number-2 c = let size = c.size_at-then-number-2.ensures in
+    goes_on (goal.at.loop-at-preserved-then-number-2 c).In-loop-at 3
+    (row-size 145 3 _ _ _ _ refl c.byte-number.ensures size.value (size.whole c.if-size_at-eq0-2.false).0 c.if-number-2.true) (λ z. omega arith)
 
 pub returns-then-size-eq0 : goal.returns-then-size-eq0
-returns-then-size-eq0 c = stops (goal.at.returns-then-size-eq0 c).In-loop-at _ c.size_at-size.ensures c.if-size-eq0.true
-
-pub overflow_add-at-else-number-2 : goal.overflow_add-at-else-number-2
-overflow_add-at-else-number-2 c = omega (arith, next-inside _ _ _ c.size_at-size.ensures c.if-size-eq0.false)
-
-pub loop-at-smaller : goal.loop-at-smaller
-loop-at-smaller c = omega (arith, next-inside _ _ _ c.size_at-size.ensures c.if-size-eq0.false)
+returns-then-size-eq0 c = stops (goal.at.returns-then-size-eq0 c).In-loop-at _ c.size_at-size.ensures.value c.if-size-eq0.true
 
 pub loop-at-preserved : goal.loop-at-preserved
-loop-at-preserved c = goes_on (goal.at.loop-at-preserved c).In-loop-at _ c.size_at-size.ensures c.if-size-eq0.false
+loop-at-preserved c = goes_on (goal.at.loop-at-preserved c).In-loop-at _ c.size_at-size.ensures.value c.if-size-eq0.false

@@ -1,48 +1,46 @@
--- Each way out is a law of the card's bytes.
-use Prim.Native.Nat.{ℕ, ◌^◌}
+-- The ways out past the card's numbers are laws of its bytes.
+use Prim.Native.Nat.{ℕ, ◌^◌, ◌≤◌, ◌<◌}
+use native.Mathlib.Omega.{arith}
 use mathlib.Core.Path.{◌≡◌, sym, ◌∙◌}
-use mathlib.Core.Bool.{false, ◌||◌}
+use mathlib.Core.Bool.{true, false, ◌||◌, or-true}
 use mathlib.Core.List.{List}
+use mathlib.Core.Logic.{◌⊎◌, inl, inr}
 use lib.Dec.{leb}
-use Rattle.octets.specs.Bytes.{byte_at, number_at}
-use Rattle.memory.specs.declared.Format.{Format}
-use Rattle.summary.proofs.Sayings.{said-fault, said-odd, said-many, said-ends, said-calls, said-none}
+use lib.ListN.{length}
+use borrow.Author.Rules.{rules}
+use borrow.Author.Tests.{le-leb, lt-leb}
+use Rattle.octets.specs.Bytes.{number_at}
+use Rattle.summary.proofs.Numbers.{part-number}
+use Rattle.summary.proofs.Sayings.{said-many, said-closed}
 use Rattle.summary.proofs.said_by.Goals as goal
-use Rattle.summary.proofs.said_by.Goals.{Else-either}
+use Rattle.summary.proofs.said_by.Goals.{After-number-exposures}
 
--- past the totals
-module _ (e : Else-either) where
-  abbrev F : Format
-  F = e.args.format
-
+-- the two numbers of the card
+module _ (c : After-number-exposures) where
   abbrev card : List ℕ
-  card = e.args.card.now
+  card = c.args.card.now
 
-  few : (leb (2 ^ 54) (number_at card 8 8) || leb (2 ^ 54) (number_at card 16 8)) ≡ false
-  few = rw (e.number-exposures.ensures, e.number-steps.ensures) at (sym e.either.ensures ∙ e.if-either.false)
+  long : length card ≡ 32
+  long = search rules
 
-  passes : byte_at card 0 ≡ 0
-  passes = e.if-card-ne0.false
+  steps : c.number-steps.result ≡ number_at card 8 8
+  steps = c.number-steps.ensures ∙ part-number card 8 8 (omega arith) (omega (arith, long))
 
-pub returns-then-card-eq1 : goal.returns-then-card-eq1
-returns-then-card-eq1 c =
-    let a = c.args in
-    rw c.reason_from.ensures (said-fault a.format a.card.now c.if-card-eq1.true)
+  exposures : c.number-exposures.result ≡ number_at card 16 8
+  exposures = c.number-exposures.ensures ∙ part-number card 16 8 (omega arith) (omega (arith, long))
 
-pub returns-then-card-ne0 : goal.returns-then-card-ne0
-returns-then-card-ne0 c = let a = c.args in said-odd a.format a.card.now c.if-card-eq1.false c.if-card-ne0.true
+many : (k x : ℕ) → ((2 ^ 54 ≤ k) ⊎ ((k < 2 ^ 54) × (2 ^ 54 ≤ x))) → (leb (2 ^ 54) k || leb (2 ^ 54) x) ≡ true
+many k x (inl a) = rw (le-leb (2 ^ 54) k a)
+many k x (inr (a, b)) = rw (le-leb (2 ^ 54) x b, or-true (leb (2 ^ 54) k))
 
-pub returns-then-either : goal.returns-then-either
-returns-then-either c =
-    said-many c.args.format c.args.card.now c.if-card-ne0.false (rw (c.number-exposures.ensures, c.number-steps.ensures) at (sym c.either.ensures ∙ c.if-either.true))
+pub returns-then-steps-ge-TOO_MANY : goal.returns-then-steps-ge-TOO_MANY
+returns-then-steps-ge-TOO_MANY c =
+    let a = (goal.at.returns-then-steps-ge-TOO_MANY c).After-number-exposures in
+    said-many c.args.format c.args.card.now c.in-0.is (rw (← steps a, ← exposures a) (many _ _ c.then-steps-ge-TOO_MANY.either))
 
-pub returns-then-card-eq1-2 : goal.returns-then-card-eq1-2
-returns-then-card-eq1-2 c = let e = (goal.at.returns-then-card-eq1-2 c).Else-either in
-    rw (c.number-exposures.ensures, c.number-steps.ensures) (said-ends (F e) (card e) (passes e) (few e) c.if-card-eq1-2.true)
-
-pub returns-then-both : goal.returns-then-both
-returns-then-both c = let e = (goal.at.returns-then-both c).Else-either in
-    rw (c.number-exposures.ensures, c.number-steps.ensures) (said-calls (F e) (card e) (passes e) (few e) (sym c.both.ensures ∙ c.if-both.true))
-
-pub returns : goal.returns
-returns c = let e = (goal.at.returns c).Else-either in said-none (F e) (card e) (passes e) (few e) c.if-card-eq1-2.false (sym c.both.ensures ∙ c.if-both.false)
+pub returns-else-exposures-ge-TOO_MANY : goal.returns-else-exposures-ge-TOO_MANY
+returns-else-exposures-ge-TOO_MANY c =
+    let a = (goal.at.returns-else-exposures-ge-TOO_MANY c).After-number-exposures in
+    let few : (leb (2 ^ 54) (number_at (card a) 8 8) || leb (2 ^ 54) (number_at (card a) 16 8)) ≡ false =
+    rw (← steps a, ← exposures a, lt-leb (2 ^ 54) c.number-steps.result c.if-steps-ge-TOO_MANY.false, lt-leb (2 ^ 54) c.number-exposures.result c.if-exposures-ge-TOO_MANY.false) in
+    rw (steps a, exposures a) (said-closed c.args.format (card a) c.in-0.is c.in_ok-closing-in-0.closing (sym c.closing_in.ensures ∙ c.in_ok-closing-in-0.was) few)

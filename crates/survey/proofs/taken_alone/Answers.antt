@@ -1,5 +1,5 @@
 -- 16 of no kind; else what the check of the text in the kind's format found, and its fault's reason.
-use mathlib.Core.Path.{refl, sym, ◌∙◌}
+use Rattle.std.proofs.Common.{refl, sym}
 use Rattle.memory.proofs.Laws.{kind-fills, no_kind}
 use Rattle.memory.specs.Memory.{format_of}
 use Rattle.sequence.specs.Env.{cards_lent}
@@ -9,17 +9,20 @@ use Rattle.survey.proofs.taken_alone.Goals as goal
 pub returns-then-kind-gt-BENCH : goal.returns-then-kind-gt-BENCH
 returns-then-kind-gt-BENCH c = sym (alone-none _ _ _ (no_kind _ c.if-kind-gt-BENCH.true))
 
-pub check_text-surveyed-requires : goal.check_text-surveyed-requires
-check_text-surveyed-requires c = rw c.of-format.ensures (kind-fills _ c.if-kind-gt-BENCH.false)
+pub of-text-requires : goal.of-text-requires
+of-text-requires c = rw c.of.ensures (kind-fills _ c.if-kind-gt-BENCH.false)
 
-pub returns-in-Faulty : goal.returns-in-Faulty
-returns-in-Faulty c =
+pub returns-in-Err : goal.returns-in-Err
+returns-in-Err c =
     let a = c.args in
-    let f = rw c.of-format.ensures at c.check_text-surveyed.ensures in
-    alone-fault (format_of a.kind) (cards_lent a.lent a.lists.now) _ (kind-fills _ c.if-kind-gt-BENCH.false) a.text.now (rw c.of-format.ensures at c.part-entry.ensures) _ _ (sym c.in-Faulty.is ∙ f.found_value) f.tested_value _ refl _ c.reason_for-reason.ensures
+    let t = c.of-text.ensures in
+    let f = rw (t.fields.0, t.fields.1, t.fields.2, t.cut, c.of.ensures) at c.check-surveyed.ensures in
+    let r = rw (t.fields.1, t.fields.2, t.cut, c.of.ensures) at c.reason_for.ensures in
+    alone-fault (format_of a.kind) (cards_lent a.lent a.lists.now) _ (kind-fills _ c.if-kind-gt-BENCH.false) a.text.now refl _ _ f.found_value f.tested_value _ c.in-Err.is _ r
 
-pub returns-in-Closed : goal.returns-in-Closed
-returns-in-Closed c =
+pub returns-in-Ok : goal.returns-in-Ok
+returns-in-Ok c =
     let a = c.args in
-    let f = rw c.of-format.ensures at c.check_text-surveyed.ensures in
-    alone-closed (format_of a.kind) (cards_lent a.lent a.lists.now) _ (kind-fills _ c.if-kind-gt-BENCH.false) a.text.now (rw c.of-format.ensures at c.part-entry.ensures) _ _ f.found_value f.tested_value _ _ _ _ c.in-Closed.is
+    let t = c.of-text.ensures in
+    let f = rw (t.fields.0, t.fields.1, t.fields.2, t.cut, c.of.ensures) at c.check-surveyed.ensures in
+    alone-closed (format_of a.kind) (cards_lent a.lent a.lists.now) _ (kind-fills _ c.if-kind-gt-BENCH.false) a.text.now refl _ _ f.found_value f.tested_value _ c.in-Ok.is

@@ -1,7 +1,0 @@
--- The field is its word.
-use Rattle.sequence.specs.Raster.{raster_at}
-use Rattle.sequence.proofs.initial_at.Goals as goal
-
-pub returns : goal.returns
-unfolding raster_at
-returns c = cc
