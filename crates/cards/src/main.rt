@@ -61,6 +61,7 @@ fn put_lists(page: &mut Page, cards: &[u8]) {
 }
 
 // The summary of two dumps, in the room lent for it, a line for each card.
+// Stays: a kind is a number, as `line::kind_named` answers and `summary::make` takes it, whose clauses have it so.
 fn show(rt: &impl Print, kind: u32, tables: &[u8], cards: &mut [u8], page: &mut Page) {
     let format = Format::of(kind);
     summary::make(

@@ -23,6 +23,7 @@ const TOO_LONG: usize = 512;
 
 // The unit's tables and their kind, what it is lent for an answer, and the page for what is shown. Each method that is given the unit answers
 // what it is then.
+// Stays: a kind is a number, as `line::kind_named` answers and `Unit::packet` takes it, whose clauses have it so.
 #[derive(Drop)]
 struct Desk<'a> {
     kind: u32,

@@ -17,6 +17,7 @@ pub extern "C" fn keel_power_on(state: &mut [u8]) -> u32
 }
 
 // One packet: the code, and 256 times the length of what was written to the output.
+// Stays: here and below kinds and codes are numbers, and a kind, its tables and a state go side by side, as the C interface has them.
 #[unsafe(no_mangle)]
 pub extern "C" fn keel_packet(
     kind: u32,

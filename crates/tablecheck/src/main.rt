@@ -25,6 +25,7 @@ const WORD: usize = 65536;
 
 // What the arguments ask for before they name sequences: the kind of the tables, whether passes are to be held against later tables, and the
 // first argument that names one.
+// Stays: a kind is a number, as `line::kind_named` answers and `survey::check` takes it, whose clauses have it so.
 #[derive(Clone, Copy)]
 struct Asked {
     kind: u32,
