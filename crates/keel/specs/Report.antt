@@ -6,21 +6,19 @@ use Rattle.octets.specs.Bytes.{two, eight}
 use Rattle.memory.specs.declared.Format.{Format}
 use Rattle.survey.specs.declared.Report.{Report}
 use Rattle.survey.specs.Chain.{Told, check_of}
-use Rattle.survey.specs.Report.{ending_shown, reason_of, reason_shown, padded}
+use Rattle.survey.specs.Report.{ending_shown, reason_of, reason_shown, report_of}
 use Rattle.summary.specs.Chain.{check_cards}
 
-unfoldable pub report_bytes : Told → List ℕ
-report_bytes t =
-    ((ending_shown t.ending).code ∷ (ending_shown t.ending).number ∷ (ending_shown t.ending).sequence ∷ (ending_shown t.ending).place
-    ∷ (reason_shown (reason_of t.ending)).number ∷ (reason_shown (reason_of t.ending)).value ∷ two (length t.names))
-    ++ (eight t.steps ++ (eight t.exposures ++ padded t.names))
-
--- of what a check found, as the code holds it
+-- of what a check found
 abbrev pub report_laid : Report → List ℕ
 report_laid r =
     ((ending_shown r.ending).code ∷ (ending_shown r.ending).number ∷ (ending_shown r.ending).sequence ∷ (ending_shown r.ending).place
     ∷ (reason_shown (reason_of r.ending)).number ∷ (reason_shown (reason_of r.ending)).value ∷ two r.count)
     ++ (eight r.steps ++ (eight r.exposures ++ r.listed))
+
+-- of what a check tells
+unfoldable pub report_bytes : Told → List ℕ
+report_bytes t = report_laid (report_of t)
 
 abbrev pub report_sized : List ℕ → Bool
 report_sized r = eqb (length r) 152

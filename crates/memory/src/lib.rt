@@ -32,8 +32,8 @@ const PAST: u32 = 0x075EC0;
 pub const LONGEST: usize = SEQUENCE_TABLE;
 
 // The kinds of the sequence table: the flight unit's, and that of the old one on the bench. There is no other.
-// Stays: the C interface hands a kind over as a number, and the theorems ask for an answer at any number, so an enum of the two would be
-// made of it in `Format::of` alone, which has the two cases and the rest as it is.
+// Stays: the C interface hands a kind over as a number, and each public function that takes it, with the theorems of one answer, has an
+// answer at any number, 16 for one that is no kind.
 pub const FLIGHT: u32 = 0;
 
 pub const BENCH: u32 = 1;
@@ -85,7 +85,7 @@ impl Place {
 }
 
 // An address in one of the tables. Only `Address::of` makes one.
-// Stays: a place and an address are kept apart by the paper, so each is a type of its own with a test of its own.
+// Stays: `place_of` and `address_of` may not change, and have two tests; one type for both would take a place for an address.
 #[derive(Clone, Copy, PartialEq, Eq)]
 pub struct Address(u32);
 

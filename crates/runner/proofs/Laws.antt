@@ -26,8 +26,8 @@ use Rattle.runner.specs.declared.Runner.{Runner}
 use Rattle.runner.specs.declared.Stepped.{Stepped}
 use Rattle.runner.specs.declared.Event.TheVariants.{Idle, Wait}
 use Rattle.runner.specs.declared.Opened.{Opened}
-use Rattle.runner.specs.declared.Refusal.{Refusal}
-use Rattle.runner.specs.Judge.{code_of, repeat_begun, set_of, count_rows, list_rows, path_rows, flag_rows, raster_rows, run_rows, expose_rows, judged, judge}
+use Rattle.runner.specs.declared.AbortCode.{AbortCode}
+use Rattle.runner.specs.Judge.{abort_code, repeat_begun, set_of, count_rows, list_rows, path_rows, flag_rows, raster_rows, run_rows, expose_rows, judged, judge}
 use Rattle.runner.specs.Step.{to, open_of, aborted, delayed, act, step_in, step_of, Stands}
 use Rattle.runner.specs.With.{with_place}
 use Rattle.sequence.proofs.Laws.{Bytes, command-bytes, none-past}
@@ -93,7 +93,7 @@ module _ (cards : ℕ → ListCard) (raster : RasterWords) (card : ListCard) (is
   raster_rows_of k = rw (is, with-shown (needs_mark raster.science) (cards raster.list), with-missing raster.science (cards raster.list))
 
 -- no refusal has the code of what is obeyed
-no_refusal : (why : Refusal) → code_of why ≡ 0 → ⊥
+no_refusal : (why : AbortCode) → abort_code why ≡ 0 → ⊥
 no_refusal why e = grind arith
 
 -- ── tables one after the other, of which the first has been tested
@@ -101,7 +101,7 @@ pub first_kept : (xs ys : List Row) → (first_code xs ≡ 0 → ⊥) → first_
 first_kept [] ys n = absurd (n refl)
 first_kept (r ∷ rs) ys n = by-test r.holds (λ h. rw h) (λ h. rw h (first_kept rs ys (λ z. n (rw h z))))
 
-pub refused_first : (xs ys : List Row) (why : Refusal) → code_of why ≡ first_code xs → code_of why ≡ first_code (xs ++ ys)
+pub refused_first : (xs ys : List Row) (why : AbortCode) → abort_code why ≡ first_code xs → abort_code why ≡ first_code (xs ++ ys)
 refused_first xs ys why e = e ∙ sym (first_kept xs ys (λ z. no_refusal why (e ∙ z)))
 
 pub passed_first : (xs ys : List Row) (n : ℕ) → T (coded xs) → 0 ≡ first_code xs → n ≡ first_code ys → n ≡ first_code (xs ++ ys)
@@ -111,12 +111,12 @@ module _ (cards : ℕ → ListCard) (raster : RasterWords) (k : ℕ) where
   abbrev after_counts : List Row
   after_counts = list_rows cards raster ++ (path_rows raster k ++ flag_rows cards raster)
 
-  pub counts_refused : (why : Refusal) → code_of why ≡ first_code (count_rows raster) → code_of why ≡ first_code (raster_rows cards raster k)
+  pub counts_refused : (why : AbortCode) → abort_code why ≡ first_code (count_rows raster) → abort_code why ≡ first_code (raster_rows cards raster k)
   unfolding raster_rows
   counts_refused = refused_first (count_rows raster) after_counts
 
   module _ (counts : 0 ≡ first_code (count_rows raster)) where
-    pub lists_refused : (why : Refusal) → code_of why ≡ first_code (list_rows cards raster) → code_of why ≡ first_code (raster_rows cards raster k)
+    pub lists_refused : (why : AbortCode) → abort_code why ≡ first_code (list_rows cards raster) → abort_code why ≡ first_code (raster_rows cards raster k)
     unfolding raster_rows
     lists_refused why e = passed_first (count_rows raster) after_counts _ tt counts (refused_first (list_rows cards raster) (path_rows raster k ++ flag_rows cards raster) why e)
 
@@ -125,8 +125,8 @@ module _ (cards : ℕ → ListCard) (raster : RasterWords) (k : ℕ) where
       unfolding raster_rows
       past_lists n e = passed_first (count_rows raster) after_counts n tt counts (passed_first (list_rows cards raster) (path_rows raster k ++ flag_rows cards raster) n tt lists e)
 
-      pub path_refused : (why : Refusal) → code_of why ≡ first_code (path_rows raster k) → code_of why ≡ first_code (raster_rows cards raster k)
-      path_refused why e = past_lists (code_of why) (refused_first (path_rows raster k) (flag_rows cards raster) why e)
+      pub path_refused : (why : AbortCode) → abort_code why ≡ first_code (path_rows raster k) → abort_code why ≡ first_code (raster_rows cards raster k)
+      path_refused why e = past_lists (abort_code why) (refused_first (path_rows raster k) (flag_rows cards raster) why e)
 
       pub flags_left : (n : ℕ) → 0 ≡ first_code (path_rows raster k) → n ≡ first_code (flag_rows cards raster) → n ≡ first_code (raster_rows cards raster k)
       unfolding path_rows

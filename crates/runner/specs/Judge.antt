@@ -10,27 +10,27 @@ use Rattle.sequence.specs.Text.{limit, size_at, command_at, is_run_raster}
 use Rattle.sequence.specs.Starts.{target_good}
 use Rattle.sequence.specs.Raster.{raster_at, flags_good, mark_missing, asrc_wrong, leaves}
 use Rattle.sequence.specs.LineList.{ListCard, card_shown, marks_in}
-use Rattle.runner.specs.declared.Refusal.{Refusal}
-use Rattle.runner.specs.declared.Refusal.TheVariants.{Forbidden, SequenceOutOfRange, ExposureCount, ListOutOfRange, ListError, RasterRepeats, MirrorOutOfRange}
+use Rattle.runner.specs.declared.AbortCode.{AbortCode}
+use Rattle.runner.specs.declared.AbortCode.TheVariants.{Forbidden, SequenceOutOfRange, ExposureCount, ListOutOfRange, ListError, RasterRepeats, MirrorOutOfRange}
 use Rattle.runner.specs.declared.Opened.{Opened}
 use Rattle.runner.specs.declared.Act.{Act}
 use Rattle.runner.specs.declared.Act.TheVariants.{Refused, Opens, Exposes, Loops, Waits, Calls, Ends}
 
 -- ── why a command is refused
 -- the code of each case, which its rows below bear; the step itself gives 4, "call above 127 gives 4"
-abbrev pub code_of : Refusal → ℕ
-code_of Forbidden = 3
-code_of SequenceOutOfRange = 4
-code_of ExposureCount = 5
-code_of ListOutOfRange = 6
-code_of ListError = 7
-code_of RasterRepeats = 11
-code_of MirrorOutOfRange = 14
+abbrev pub abort_code : AbortCode → ℕ
+abort_code Forbidden = 3
+abort_code SequenceOutOfRange = 4
+abort_code ExposureCount = 5
+abort_code ListOutOfRange = 6
+abort_code ListError = 7
+abort_code RasterRepeats = 11
+abort_code MirrorOutOfRange = 14
 
 -- for the code: that of a test, 0 where it passes
-abbrev pub code_in : {A : Type 0} → Result A Refusal → ℕ
-code_in (Ok passed) = 0
-code_in (Err why) = code_of why
+abbrev pub abort_code_in : {A : Type 0} → Result A AbortCode → ℕ
+abort_code_in (Ok passed) = 0
+abort_code_in (Err why) = abort_code why
 
 -- ── the open raster
 -- "raster open"

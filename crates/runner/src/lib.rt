@@ -8,7 +8,7 @@ ghost use Rattle.sequence.specs.Raster.{raster_at, asrc_wrong, shift_of, start_o
 ghost use Rattle.sequence.specs.declared.Command.TheVariants.{Expose, Delay};
 ghost use Rattle.sequence.specs.Text.{row_of, fault, size_at};
 ghost use Rattle.sequence.specs.Env.{cards_of, cards_lent, env_of};
-ghost use Rattle.runner.specs.Judge.{code_of, code_in, open_elsewhere, repeat_begun, set_of, full, count_rows, list_rows, path_rows, flag_rows, raster_rows, run_rows, expose_rows, loop_rows, close_rows, tests_list, unless, exposes_in, judge};
+ghost use Rattle.runner.specs.Judge.{abort_code, abort_code_in, open_elsewhere, repeat_begun, set_of, full, count_rows, list_rows, path_rows, flag_rows, raster_rows, run_rows, expose_rows, loop_rows, close_rows, tests_list, unless, exposes_in, judge};
 ghost use Rattle.runner.specs.Step.{to, open_of, aborted, entered, advances, exposed_at, next_repeat, another, act, step_in, step_of, Stands};
 ghost use Rattle.runner.specs.With.{with_place, open_at, with_count, with_passes};
 
@@ -99,7 +99,7 @@ pub enum Act {
 
 // Why a command is refused, each case with the code that is shown for it.
 #[derive(Clone, Copy)]
-enum Refusal {
+enum AbortCode {
     // it can't stand there, or has an operand or flags that it can't have
     Forbidden = 3,
     SequenceOutOfRange = 4,
@@ -113,18 +113,18 @@ enum Refusal {
     MirrorOutOfRange = 14,
 }
 
-impl Refusal {
-    // The code that a refusal shows.
+impl AbortCode {
+    // The code's number.
     fn code(self) -> u8
-        ensures { result ≡ code_of self }
+        ensures { result ≡ abort_code self }
     {
         self as u8
     }
 }
 
 // An act, unless a row refused it.
-fn unless(tested: Result<(), Refusal>, judgement: Act) -> Act
-    ensures { result ≡ unless (code_in tested) judgement }
+fn unless(tested: Result<(), AbortCode>, judgement: Act) -> Act
+    ensures { result ≡ unless (abort_code_in tested) judgement }
 {
     match tested {
         Ok(()) => judgement,
@@ -244,27 +244,27 @@ fn start_at(text: &[u8], at: Place, k: u16, shift: i16) -> u16
 }
 
 // The test of a raster's loops, repeats and exposures.
-fn count_fault(raster: RasterWords) -> Result<(), Refusal>
-    ensures { code_in result ≡ first_code (count_rows raster) }
+fn count_fault(raster: RasterWords) -> Result<(), AbortCode>
+    ensures { abort_code_in result ≡ first_code (count_rows raster) }
 {
     if raster.loops == 0 || raster.repeats == 0 {
-        return Err(Refusal::RasterRepeats);
+        return Err(AbortCode::RasterRepeats);
     }
     if raster.exposures == 0 || Runner::FULL_SET < raster.exposures {
-        return Err(Refusal::ExposureCount);
+        return Err(AbortCode::ExposureCount);
     }
     Ok(())
 }
 
 // The test of a raster's line list: which of the list's own tests fails is dropped.
-fn list_fault(raster: RasterWords, card: ListCard) -> Result<(), Refusal>
-    ensures { code_in result ≡ first_code (list_rows (λ n. card) raster) }
+fn list_fault(raster: RasterWords, card: ListCard) -> Result<(), AbortCode>
+    ensures { abort_code_in result ≡ first_code (list_rows (λ n. card) raster) }
 {
     if memory::LAST_LINE_LIST < raster.list {
-        return Err(Refusal::ListOutOfRange);
+        return Err(AbortCode::ListOutOfRange);
     }
     if card.is_err() {
-        return Err(Refusal::ListError);
+        return Err(AbortCode::ListError);
     }
     Ok(())
 }
@@ -277,47 +277,47 @@ fn asrc_wrong(raster: RasterWords) -> bool
 }
 
 // The test of a raster's positions, given whether one of them is out of range.
-fn range_fault(raster: RasterWords, leaves: bool) -> Result<(), Refusal>
-    ensures { code_in result ≡ cond (ltb 2400 raster.initial) 14 (cond (ltb 2400 raster.step) 14 (cond leaves 14 0)) }
+fn range_fault(raster: RasterWords, leaves: bool) -> Result<(), AbortCode>
+    ensures { abort_code_in result ≡ cond (ltb 2400 raster.initial) 14 (cond (ltb 2400 raster.step) 14 (cond leaves 14 0)) }
 {
     if Runner::END_STOP < raster.initial || Runner::END_STOP < raster.step || leaves {
-        return Err(Refusal::MirrorOutOfRange);
+        return Err(AbortCode::MirrorOutOfRange);
     }
     Ok(())
 }
 
 // The test of a raster's path, where repeat k is begun. With an ASRC byte of 0 every repeat takes the same path.
 #[tactic(auto, using(crate::proofs::Laws::path_off), unfolding(crate::specs::Judge::path_rows))]
-fn path_fault(raster: RasterWords, k: u16) -> Result<(), Refusal>
-    ensures { code_in result ≡ first_code (path_rows raster k) }
+fn path_fault(raster: RasterWords, k: u16) -> Result<(), AbortCode>
+    ensures { abort_code_in result ≡ first_code (path_rows raster k) }
 {
     if raster.asrc == 0 {
         let past = past_stop(raster.initial as u32, raster.loops, raster.step);
         return range_fault(raster, past);
     }
     if asrc_wrong(raster) {
-        return Err(Refusal::Forbidden);
+        return Err(AbortCode::Forbidden);
     }
     range_fault(raster, leaves(raster, k))
 }
 
 // The test of a raster's flags; a mark that is missing comes last.
-fn flag_fault(raster: RasterWords, card: ListCard) -> Result<(), Refusal>
-    ensures { code_in result ≡ first_code (flag_rows (λ n. card) raster) }
+fn flag_fault(raster: RasterWords, card: ListCard) -> Result<(), AbortCode>
+    ensures { abort_code_in result ≡ first_code (flag_rows (λ n. card) raster) }
 {
     if !sequence::flags_good(raster.science) {
-        return Err(Refusal::Forbidden);
+        return Err(AbortCode::Forbidden);
     }
     if sequence::marks_in(card).lack(raster.science) {
-        return Err(Refusal::ListError);
+        return Err(AbortCode::ListError);
     }
     Ok(())
 }
 
 // The test of a raster's words, given its line list's card: counts, line list, path, flags.
 #[tactic(auto, using(crate::proofs::Laws::raster_tests))]
-fn raster_fault(raster: RasterWords, card: ListCard, k: u16) -> Result<(), Refusal>
-    ensures { code_in result ≡ first_code (raster_rows (λ n. card) raster k) }
+fn raster_fault(raster: RasterWords, card: ListCard, k: u16) -> Result<(), AbortCode>
+    ensures { abort_code_in result ≡ first_code (raster_rows (λ n. card) raster k) }
 {
     count_fault(raster)?;
     list_fault(raster, card)?;
@@ -334,11 +334,11 @@ fn run_fault(
     lists: &[u8],
     at: Place,
     held: Option<Opened>,
-) -> Result<(), Refusal>
-    ensures { code_in result ≡ first_code (run_rows (cards_lent lent lists.now) text.now at.0 held) }
+) -> Result<(), AbortCode>
+    ensures { abort_code_in result ≡ first_code (run_rows (cards_lent lent lists.now) text.now at.0 held) }
 {
     if elsewhere(held, at) {
-        return Err(Refusal::Forbidden);
+        return Err(AbortCode::Forbidden);
     }
     let raster = sequence::raster_at(text, at);
     let wanted = sequence::needs_mark(raster.science);
@@ -364,39 +364,39 @@ pub fn tests_list(text: &[u8], at: Place, held: Option<Opened>) -> bool
 
 // The test of an expose: the open raster's place, or why it is refused.
 #[tactic(auto, unfolding(crate::specs::Judge::expose_rows))]
-fn expose_fault(text: &[u8], time: u16, held: Option<Opened>) -> Result<Place, Refusal>
-    ensures code { code_in result ≡ first_code (expose_rows text.now time held) }
+fn expose_fault(text: &[u8], time: u16, held: Option<Opened>) -> Result<Place, AbortCode>
+    ensures code { abort_code_in result ≡ first_code (expose_rows text.now time held) }
     ensures raster { IfOk result (λ r. exposes_in held ≡ Act.Exposes r) }
 {
-    let open = held.ok_or(Refusal::Forbidden)?;
+    let open = held.ok_or(AbortCode::Forbidden)?;
     if !sequence::raster_stands(text, open.place) || time == 0 || open.full(text) {
-        return Err(Refusal::Forbidden);
+        return Err(AbortCode::Forbidden);
     }
     Ok(open.place)
 }
 
 // The test of a loop back.
 #[tactic(auto, unfolding(crate::specs::Judge::loop_rows))]
-fn loop_fault(text: &[u8], at: Place, target: u8, held: Option<Opened>) -> Result<(), Refusal>
-    ensures { code_in result ≡ first_code (loop_rows text.now at.0 target held) }
+fn loop_fault(text: &[u8], at: Place, target: u8, held: Option<Opened>) -> Result<(), AbortCode>
+    ensures { abort_code_in result ≡ first_code (loop_rows text.now at.0 target held) }
 {
-    let open = held.ok_or(Refusal::Forbidden)?;
+    let open = held.ok_or(AbortCode::Forbidden)?;
     if !sequence::raster_stands(text, open.place)
         || !open.full(text)
         || !sequence::target_good(text, open.place, at, target)
     {
-        return Err(Refusal::Forbidden);
+        return Err(AbortCode::Forbidden);
     }
     Ok(())
 }
 
 // The test of a call or terminate.
 #[tactic(auto, unfolding(crate::specs::Judge::close_rows))]
-fn close_fault(text: &[u8], at: Place, held: Option<Opened>) -> Result<(), Refusal>
-    ensures { code_in result ≡ first_code (close_rows text.now at.0 held) }
+fn close_fault(text: &[u8], at: Place, held: Option<Opened>) -> Result<(), AbortCode>
+    ensures { abort_code_in result ≡ first_code (close_rows text.now at.0 held) }
 {
     if held.is_some() || sequence::past(text, at) != sequence::limit(text) {
-        return Err(Refusal::Forbidden);
+        return Err(AbortCode::Forbidden);
     }
     Ok(())
 }
@@ -419,7 +419,7 @@ pub fn judge(text: &[u8], lent: Lent, lists: &[u8], at: Place, held: Option<Open
         Command::Terminate => unless(close_fault(text, at, held), Act::Ends),
         Command::Delay(_) => Act::Waits,
         Command::Nothing | Command::Unknown | Command::Unfit => Act::Refused(
-            Refusal::Forbidden.code(),
+            AbortCode::Forbidden.code(),
         ),
     }
 }
@@ -501,8 +501,8 @@ impl Runner {
     }
 
     // Stopped at the runner's own place, with why its command is refused.
-    fn refused(self, why: Refusal) -> Stepped
-        ensures { result ≡ aborted (fault (code_of why) self.place) self }
+    fn refused(self, why: AbortCode) -> Stepped
+        ensures { result ≡ aborted (fault (abort_code why) self.place) self }
     {
         self.aborted(Fault {
             code: why.code(),
@@ -612,7 +612,7 @@ impl Runner {
         }
         let mirror = self.mirror as u32 + sequence::step_at(text, raster) as u32;
         if (Runner::END_STOP as u32) < mirror {
-            return self.refused(Refusal::MirrorOutOfRange);
+            return self.refused(AbortCode::MirrorOutOfRange);
         }
         self.exposed(mirror as u16)
     }
@@ -698,7 +698,7 @@ impl Runner {
             return self.another();
         }
         if format.last < n {
-            return self.refused(Refusal::SequenceOutOfRange);
+            return self.refused(AbortCode::SequenceOutOfRange);
         }
         Stepped {
             event: Event::Call(n),
@@ -741,7 +741,7 @@ impl Runner {
             return self.enter(text);
         }
         let Some(at) = Place::of(format, self.place) else {
-            return self.refused(Refusal::Forbidden);
+            return self.refused(AbortCode::Forbidden);
         };
         let command = sequence::command_at(text, at);
         match command {
@@ -752,7 +752,7 @@ impl Runner {
             Command::Terminate => self.terminate(format, text, at),
             Command::Delay(time) => self.delay(time),
             Command::Nothing | Command::Unknown | Command::Unfit => self.refused(
-                Refusal::Forbidden,
+                AbortCode::Forbidden,
             ),
         }
     }

@@ -267,7 +267,7 @@ pub fn command_at(text: &[u8], at: Place) -> Command
 }
 
 // The byte that stands k after a place.
-// Stays: the readers below may not change, each public with a theorem of its name, so text and place are no struct.
+// Stays: here and in the next a text and a place in it, as the public readers below take them, each with its theorem of one answer.
 fn byte_after(text: &[u8], at: Place, k: u8) -> u8
     ensures { result ≡ byte_at text.now (at.0 + k) }
 {
@@ -450,7 +450,8 @@ fn walk_list(start: u8, list: &[u8], wanted: bool) -> ListWalk
 
 // A line list's card: window count, length, checksum, in that order; the sum is taken as that of an entry is. Marks that are not wanted are
 // not looked for.
-// Stays: what says whether they are wanted, since the clauses here and of `kept_card` and `card_of` name it, `card_with wanted`.
+// Stays: what says whether they are wanted, since the clauses here and of `kept_card` and `card_of` name it, `card_with wanted`; the
+// private `walk_list` and `card_from` are handed it.
 #[tactic(auto, unfolding(crate::specs::LineList::list_card))]
 pub fn list_card(list: &[u8], wanted: bool) -> ListCard
     ensures { result ≡ card_with wanted (list_card list.now) }

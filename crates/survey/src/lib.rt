@@ -439,11 +439,7 @@ impl<'a> Text<'a> {
             return Reason::None;
         }
         let n = self.list_named(fault.place);
-        let card = match self.lent {
-            Lent::Lists => sequence::list_card(memory::list(self.lists, n), false),
-            Lent::Cards => sequence::kept_card(self.lists, n, false),
-        };
-        match card {
+        match sequence::card_of(self.lent, self.lists, n, false) {
             Ok(_) => Reason::Mark,
             Err(bad) => Reason::OfList(bad),
         }
