@@ -74,6 +74,12 @@ pub xor-end : (s : List ℕ) (x i : ℕ) → length s ≤ i → xor_on x (drop i
 unfolding xor_on
 xor-end s x i h = rw drop_of_length-le
 
+-- the XOR of two parts, one after the other
+pub xor-append : (x : ℕ) (a b : List ℕ) → xor_on x (a ++ b) ≡ xor_on (xor_on x a) b
+unfolding xor_on
+xor-append x [] b = refl
+xor-append x (y ∷ a) b = xor-append (lib.Bits.bit_xor x y) a b
+
 -- ── ordered rows
 module _ (c : ℕ) (rs : List Row) where
   row-passed : (t : Bool) → 0 < c → cond t c (first_code rs) ≡ 0 → (t ≡ false) × (first_code rs ≡ 0)

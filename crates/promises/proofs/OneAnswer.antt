@@ -130,6 +130,21 @@ use Rattle.promises.specs.OneAnswer.{
   OneKeelKeelCards,
   OneKeelKeelCardsUpdate,
   OneKeelKeelCardsCheck,
+  OneConsolePageOver,
+  OneConsolePageShow,
+  OneConsolePageMakeRoom,
+  OneConsolePagePut,
+  OneConsolePagePutWord,
+  OneConsolePagePutNumber,
+  OneConsolePagePutNumbers,
+  OneConsolePagePutBits,
+  OneConsolePagePutOctets,
+  OneConsolePagePutReason,
+  OneConsolePagePutList,
+  OneConsolePagePutAnswer,
+  OneConsolePagePutBlock,
+  OneConsolePagePutEvent,
+  OneConsolePagePutBad,
 }
 
 -- ── octets
@@ -525,3 +540,49 @@ one-result-keel-keel-cards-update κs a r r' e e' p q = λ i. ((p.0 ∙ sym q.0)
 
 pub one-result-keel-keel-cards-check : OneKeelKeelCardsCheck
 one-result-keel-keel-cards-check κs a r r' e e' p q = λ i. ((p.0 ∙ sym q.0) i, (p.1 ∙ sym q.1) i)
+
+-- ── console
+pub one-result-console-Page-over : OneConsolePageOver
+one-result-console-Page-over κs a r r' e e' p q = λ i. ((p.1.0 ∙ sym q.1.0) i, (p.1.1 ∙ sym q.1.1) i)
+
+pub one-result-console-Page-show : OneConsolePageShow
+one-result-console-Page-show T laws g d κs a r r' e e' p q = λ i. ((p.1.0 ∙ sym q.1.0) i, (p.1.1 ∙ sym q.1.1) i)
+
+pub one-result-console-Page-make-room : OneConsolePageMakeRoom
+one-result-console-Page-make-room T laws g d κs a r r' e e' p q = λ i. ((p.1.0 ∙ sym q.1.0) i, (p.1.1 ∙ sym q.1.1) i)
+
+pub one-result-console-Page-put : OneConsolePagePut
+one-result-console-Page-put κs a r r' e e' p q = λ i. ((p.1.bytes ∙ sym q.1.bytes) i, (p.1.place ∙ sym q.1.place) i)
+
+pub one-result-console-Page-put-word : OneConsolePagePutWord
+one-result-console-Page-put-word κs a r r' e e' p q = λ i. ((p.1.bytes ∙ sym q.1.bytes) i, (p.1.place ∙ sym q.1.place) i)
+
+pub one-result-console-Page-put-number : OneConsolePagePutNumber
+one-result-console-Page-put-number κs a r r' e e' p q = λ i. ((p.1.bytes ∙ sym q.1.bytes) i, (p.1.place ∙ sym q.1.place) i)
+
+pub one-result-console-Page-put-numbers : OneConsolePagePutNumbers
+one-result-console-Page-put-numbers κs a r r' e e' p q = λ i. ((p.1.bytes ∙ sym q.1.bytes) i, (p.1.place ∙ sym q.1.place) i)
+
+pub one-result-console-Page-put-bits : OneConsolePagePutBits
+one-result-console-Page-put-bits κs a r r' e e' p q = λ i. ((p.1.bytes ∙ sym q.1.bytes) i, (p.1.place ∙ sym q.1.place) i)
+
+pub one-result-console-Page-put-octets : OneConsolePagePutOctets
+one-result-console-Page-put-octets κs a r r' e e' p q = λ i. ((p.1.bytes ∙ sym q.1.bytes) i, (p.1.place ∙ sym q.1.place) i)
+
+pub one-result-console-Page-put-reason : OneConsolePagePutReason
+one-result-console-Page-put-reason κs a r r' e e' p q = λ i. ((p.1.bytes ∙ sym q.1.bytes) i, (p.1.place ∙ sym q.1.place) i)
+
+pub one-result-console-Page-put-list : OneConsolePagePutList
+one-result-console-Page-put-list κs a r r' e e' p q = λ i. ((p.1.bytes ∙ sym q.1.bytes) i, (p.1.place ∙ sym q.1.place) i)
+
+pub one-result-console-Page-put-answer : OneConsolePagePutAnswer
+one-result-console-Page-put-answer κs a r r' e e' p q = λ i. ((p.1.bytes ∙ sym q.1.bytes) i, (p.1.place ∙ sym q.1.place) i)
+
+pub one-result-console-Page-put-block : OneConsolePagePutBlock
+one-result-console-Page-put-block κs a r r' e e' p q = λ i. ((p.1.bytes ∙ sym q.1.bytes) i, (p.1.place ∙ sym q.1.place) i)
+
+pub one-result-console-Page-put-event : OneConsolePagePutEvent
+one-result-console-Page-put-event κs a r r' e e' p q = λ i. ((p.1.bytes ∙ sym q.1.bytes) i, (p.1.place ∙ sym q.1.place) i)
+
+pub one-result-console-Page-put-bad : OneConsolePagePutBad
+one-result-console-Page-put-bad κs a r r' e e' p q = λ i. ((p.1.bytes ∙ sym q.1.bytes) i, (p.1.place ∙ sym q.1.place) i)

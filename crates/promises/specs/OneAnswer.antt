@@ -6,6 +6,9 @@
 use Rattle.std.specs.Prelude.{⊤, ℕ, ◌≡◌, Bool, List, Option, Result}
 use contract.Lifetimes.{Lfts}
 use denote.Triple.Clauses.{AtExit}
+use mir.Syntax.{Dict}
+use denote.RattleType.{RattleType}
+use denote.Param.Laws.{Laws}
 use borrow.Fn.Kinds.{ParamKind, ResultKind, Out, Dens, res_t, ended_of}
 use Rattle.octets.proofs as octets
 use Rattle.memory.proofs as memory
@@ -39,6 +42,8 @@ use Rattle.unit.proofs as unit
 use Rattle.line.proofs as line
 use Rattle.line.specs.declared.Line.{Line}
 use Rattle.state.proofs as state
+use Rattle.console.proofs as console
+use Rattle.std.specs.declared.io.Print.{Ghosts}
 use Rattle.keel.proofs as keel
 use Rattle.unit.specs.declared.Unit.{Unit as ControlUnit}
 use Rattle.telecommand.specs.declared.Refusal.{Refusal}
@@ -447,3 +452,49 @@ OneKeelKeelCardsUpdate = One (ℕ × List ℕ) keel.keel_cards_update.Kinds.ps k
 
 abbrev pub OneKeelKeelCardsCheck : Type 0
 OneKeelKeelCardsCheck = One (ℕ × List ℕ) keel.keel_cards_check.Kinds.ps keel.keel_cards_check.Kinds.r keel.keel_cards_check.Reads.Learnt (λ κs r (_, (_, (_, (report, _)))). (r, report.now))
+
+-- ── console: a page, by its bytes and the place of the next text. Nothing is said of what it shows, by any printer, nor of arguments and input
+abbrev pub OneConsolePageOver : Type 0
+OneConsolePageOver = One (List ℕ × ℕ) console.Page.over.Kinds.ps console.Page.over.Kinds.r console.Page.over.Reads.Learnt (λ κs r e. (r.text.now, r.at))
+
+abbrev pub OneConsolePageShow : Type 2
+OneConsolePageShow = (T : RattleType) (laws : Laws T) (g : Ghosts T.Denot) (d : Dict) → One (List ℕ × ℕ) (console.Page.show.Kinds.ps T laws) (console.Page.show.Kinds.r T laws) (console.Page.show.Reads.Learnt T laws g d) (λ κs r e. (e.0.now.text.now, e.0.now.at))
+
+abbrev pub OneConsolePageMakeRoom : Type 2
+OneConsolePageMakeRoom = (T : RattleType) (laws : Laws T) (g : Ghosts T.Denot) (d : Dict) → One (List ℕ × ℕ) (console.Page.make_room.Kinds.ps T laws) (console.Page.make_room.Kinds.r T laws) (console.Page.make_room.Reads.Learnt T laws g d) (λ κs r e. (e.0.now.text.now, e.0.now.at))
+
+abbrev pub OneConsolePagePut : Type 0
+OneConsolePagePut = One (List ℕ × ℕ) console.Page.put.Kinds.ps console.Page.put.Kinds.r console.Page.put.Reads.Learnt (λ κs r e. (e.0.now.text.now, e.0.now.at))
+
+abbrev pub OneConsolePagePutWord : Type 0
+OneConsolePagePutWord = One (List ℕ × ℕ) console.Page.put_word.Kinds.ps console.Page.put_word.Kinds.r console.Page.put_word.Reads.Learnt (λ κs r e. (e.0.now.text.now, e.0.now.at))
+
+abbrev pub OneConsolePagePutNumber : Type 0
+OneConsolePagePutNumber = One (List ℕ × ℕ) console.Page.put_number.Kinds.ps console.Page.put_number.Kinds.r console.Page.put_number.Reads.Learnt (λ κs r e. (e.0.now.text.now, e.0.now.at))
+
+abbrev pub OneConsolePagePutNumbers : Type 0
+OneConsolePagePutNumbers = One (List ℕ × ℕ) console.Page.put_numbers.Kinds.ps console.Page.put_numbers.Kinds.r console.Page.put_numbers.Reads.Learnt (λ κs r e. (e.0.now.text.now, e.0.now.at))
+
+abbrev pub OneConsolePagePutBits : Type 0
+OneConsolePagePutBits = One (List ℕ × ℕ) console.Page.put_bits.Kinds.ps console.Page.put_bits.Kinds.r console.Page.put_bits.Reads.Learnt (λ κs r e. (e.0.now.text.now, e.0.now.at))
+
+abbrev pub OneConsolePagePutOctets : Type 0
+OneConsolePagePutOctets = One (List ℕ × ℕ) console.Page.put_octets.Kinds.ps console.Page.put_octets.Kinds.r console.Page.put_octets.Reads.Learnt (λ κs r e. (e.0.now.text.now, e.0.now.at))
+
+abbrev pub OneConsolePagePutReason : Type 0
+OneConsolePagePutReason = One (List ℕ × ℕ) console.Page.put_reason.Kinds.ps console.Page.put_reason.Kinds.r console.Page.put_reason.Reads.Learnt (λ κs r e. (e.0.now.text.now, e.0.now.at))
+
+abbrev pub OneConsolePagePutList : Type 0
+OneConsolePagePutList = One (List ℕ × ℕ) console.Page.put_list.Kinds.ps console.Page.put_list.Kinds.r console.Page.put_list.Reads.Learnt (λ κs r e. (e.0.now.text.now, e.0.now.at))
+
+abbrev pub OneConsolePagePutAnswer : Type 0
+OneConsolePagePutAnswer = One (List ℕ × ℕ) console.Page.put_answer.Kinds.ps console.Page.put_answer.Kinds.r console.Page.put_answer.Reads.Learnt (λ κs r e. (e.0.now.text.now, e.0.now.at))
+
+abbrev pub OneConsolePagePutBlock : Type 0
+OneConsolePagePutBlock = One (List ℕ × ℕ) console.Page.put_block.Kinds.ps console.Page.put_block.Kinds.r console.Page.put_block.Reads.Learnt (λ κs r e. (e.0.now.text.now, e.0.now.at))
+
+abbrev pub OneConsolePagePutEvent : Type 0
+OneConsolePagePutEvent = One (List ℕ × ℕ) console.Page.put_event.Kinds.ps console.Page.put_event.Kinds.r console.Page.put_event.Reads.Learnt (λ κs r e. (e.0.now.text.now, e.0.now.at))
+
+abbrev pub OneConsolePagePutBad : Type 0
+OneConsolePagePutBad = One (List ℕ × ℕ) console.Page.put_bad.Kinds.ps console.Page.put_bad.Kinds.r console.Page.put_bad.Reads.Learnt (λ κs r e. (e.0.now.text.now, e.0.now.at))

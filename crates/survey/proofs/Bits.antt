@@ -4,12 +4,13 @@ use native.Mathlib.Nat.{suc-mul, pow-succ', div-div-eq-div-mul, div-one, div-add
 use native.Mathlib.Decide.{ℕ_discrete}
 use native.Mathlib.Omega.{arith}
 use mathlib.Core.Path.{◌≡◌, refl, sym, ap, ap₂, ◌∙◌}
-use mathlib.Core.Bool.{Bool, true, false, cond, ◌||◌, or-true, or-false}
+use mathlib.Core.Bool.{Bool, true, false, cond, not, ◌||◌, or-true, or-false}
 use mathlib.Core.List.{List, [], ◌∷◌, ◌++◌}
-use lib.Dec.{eqb}
-use lib.Bits.{bit_or, or_step, or_zero_r, or_block}
+use lib.Dec.{eqb, leb}
+use lib.Bits.{bit_and, and_zero_r, bit_or, or_step, or_zero_r, or_block}
 use lib.Pow.{pow_mono, pow_pos}
 use borrow.Author.Tests.{eq-eqb, ne_eqb, eqb-true, eqb-false, le-leb}
+use Rattle.std.proofs.lemmas.Nat.Bits.{and_pow}
 use Rattle.octets.proofs.Bools.{by-test}
 use Rattle.sequence.specs.Starts.{among}
 use Rattle.survey.specs.Tested.{bits_of, has_list}
@@ -56,6 +57,19 @@ or_with bits k h =
     let low : 47 - k ≤ 47 = omega arith in
     let fits : 1 * 2 ^ (47 - k) % 2 ^ 64 ≡ 2 ^ (47 - k) = let most : 2 ^ (47 - k) ≤ 2 ^ 47 = pow_mono low in omega arith in
     rw (fits, le-leb k 47 h) (or-bit bits (47 - k))
+
+-- a set has a list where its bit is set
+pub bit_told : (bits k : ℕ) → not (eqb (bit_and bits (cond (leb k 47) (2 ^ (47 - k)) 0)) 0) ≡ has_list bits k
+unfolding has_list
+bit_told bits k =
+    by-test (leb k 47)
+    (λ l.
+    let j = 47 - k in
+    rw (l, and_pow bits j)
+    (by-test (eqb (bits / 2 ^ j % 2) 1)
+    (λ e. let p = pow_pos j in rw (eqb-true (bits / 2 ^ j % 2) 1 e, ne_eqb (1 * 2 ^ j) 0 (λ z. omega arith)))
+    (λ e. let none : bits / 2 ^ j % 2 ≡ 0 = omega (arith, eqb-false (bits / 2 ^ j % 2) 1 e) in let zero : 0 * 2 ^ j ≡ 0 = omega arith in rw (none, zero))))
+    (λ l. rw (l, and_zero_r bits))
 
 abbrev bit : Bool → ℕ
 bit b = cond b 1 0

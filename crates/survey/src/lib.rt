@@ -1,7 +1,7 @@
 // The table check: it reads and does not run.
 #![tactic(auto)]
 
-ghost use Rattle.std.specs.Prelude.{◌≡◌, ℕ, ◌+◌, ◌*◌, ◌-◌, ◌≤◌, ◌<◌, ◌^◌, true, false, cond, ◌&&◌, ◌||◌, List, ltb, [], length, take, get_or, IfSome, option_and_then};
+ghost use Rattle.std.specs.Prelude.{◌≡◌, ℕ, ◌+◌, ◌*◌, ◌-◌, ◌≤◌, ◌<◌, ◌^◌, true, false, cond, ◌&&◌, ◌||◌, List, ltb, leb, [], length, take, get_or, IfSome, option_and_then};
 ghost use Rattle.octets.specs.Bytes.{byte_at};
 ghost use Rattle.memory.specs.Memory.{format_of, fills, tables_wrong, address_of, entry_of};
 ghost use Rattle.sequence.specs.declared.Command.TheVariants.{RunRaster, LoopBack};
@@ -194,12 +194,24 @@ fn one_more(held: Option<Opened>) -> Option<Opened>
     })
 }
 
-// Whether a set of line lists, a bit for each, has this one: list 0 is the most significant of 48 bits.
-#[tactic(auto, unfolding(crate::specs::Tested::has_list))]
+// A line list's bit in a set of them: list 0 is the most significant of 48 bits, and none above the last has one.
+fn list_bit(k: u8) -> u64
+    ensures { result ≡ cond (leb k 47) (2 ^ (47 - k)) 0 }
+{
+    if k <= memory::LAST_LINE_LIST {
+        1 << (memory::LAST_LINE_LIST - k)
+    } else {
+        0
+    }
+}
+
+// Whether a set of line lists, a bit for each, has this one: list 0 is the most significant of 48 bits. Where many sets are asked for a list,
+// its bit is worked out once.
+#[tactic(auto, using(crate::proofs::Bits::bit_told))]
 pub fn has_list(lists: u64, k: u8) -> bool
     ensures { result ≡ has_list lists k }
 {
-    k <= memory::LAST_LINE_LIST && (lists >> (memory::LAST_LINE_LIST - k)) % 2 == 1
+    lists & list_bit(k) != 0
 }
 
 // The steps of a delay: one of its own where no raster is open.

@@ -17,8 +17,8 @@ const TABLES: usize = memory::SEQUENCE_TABLE + memory::LINE_LIST_TABLE;
 // The bytes of text that can wait.
 const TEXT: usize = 70000;
 
-// More text than a line has, with any argument: where there is less room, the lines so far are shown.
-const ROOM: usize = 65904;
+// More text than a line has, with any argument: where there is less room, the lines so far are shown, which are 4,096 bytes then or more.
+const ROOM: usize = TEXT - 4095;
 
 // The longest argument that is looked at.
 const WORD: usize = 65536;

@@ -1,17 +1,21 @@
 -- Laws of commands and of refusals over the definitions alone: each has its number, and no other has it. Assumes nothing.
 use Prim.Native.Nat.{ℕ, ◌<◌}
 use native.Mathlib.Omega.{arith}
-use mathlib.Core.Path.{◌≡◌, refl, sym, ap, ◌∙◌}
-use mathlib.Core.Bool.{Bool, true, false, cond}
+use mathlib.Core.Path.{◌≡◌, refl, sym, ap, subst, ◌∙◌}
+use mathlib.Core.Bool.{Bool, true, false, cond, not}
 use mathlib.Core.List.{List, [], ◌∷◌}
-use lib.Dec.{eqb}
-use borrow.Author.Tests.{eqb-true}
+use lib.Dec.{T, eqb}
+use borrow.Author.Tests.{ne_eqb, eqb-true}
+use mir.Val.{has_key}
+use types.Run.{OneOf, miss}
+use denote.Enum.Declared.{tag_of}
 use Rattle.std.specs.Prelude.{Result, Ok, Err}
 use Rattle.octets.specs.Rows.{first_code}
 use Rattle.telecommand.specs.declared.Telecommand.{Telecommand}
 use Rattle.telecommand.specs.declared.Telecommand.TheVariants.{Status, Dump, Allow, Mode, Clear, Select, Uplink, Foreign, Unheard}
 use Rattle.telecommand.specs.declared.Refusal.{Refusal}
 use Rattle.telecommand.specs.declared.Refusal.TheVariants.{WrongLength, PairNotAllowed, NotYetAllowed, OtherSubsystem, NotInTable, WrongRange, TooLong, NoSuchMode, WrongMode, WrongSize, OutOfRange}
+use Rattle.telecommand.specs.contracts.Telecommand.{the_type}
 use Rattle.telecommand.specs.Packet.{bc1_of, is, numbered, telecommand_of, shape_rows}
 use Rattle.telecommand.specs.Refusal.{refusal_code, result_code}
 
@@ -41,6 +45,12 @@ numbers n (c ∷ ks) other k d e = go (eqb n (bc1_of c)) refl (numbers n ks othe
     go : (b : Bool) → eqb n (bc1_of c) ≡ b → (numbered n ks other ≡ k → n ≡ bc1_of k) → cond b c (numbered n ks other) ≡ k → n ≡ bc1_of k
     go true t f e = eqb-true n (bc1_of c) t ∙ ap bc1_of e
     go false t f e = f e
+
+-- a command whose variant is among some is none whose variant is not
+pub is-not : (c k : Telecommand) (ks : List ℕ) → T (not (has_key ks (tag_of the_type c))) → OneOf ks (tag_of the_type k) → is c k ≡ false
+is-not c k ks t h =
+    ne_eqb (bc1_of k) (bc1_of c)
+    (λ e. miss ks (tag_of the_type c) t (subst (λ (x : Telecommand). OneOf ks (tag_of the_type x)) (same c k e) h))
 
 -- the one byte 01 is refused by no row of its shape: no table of rows may refuse everything
 pub status-whole : first_code (shape_rows Status (0x01 ∷ [])) ≡ 0

@@ -1,16 +1,16 @@
--- Laws of packets over the definitions alone: when a packet is obeyed, and what a refusal leaves. Assumes nothing.
+-- Laws of packets over the definitions alone: which codes there are, when a packet is obeyed, and what a refusal leaves. Assumes nothing.
 use Prim.Native.Nat.{ℕ, ◌≤◌, ◌<◌}
 use native.Mathlib.Omega.{arith}
 use mathlib.Core.Path.{◌≡◌, refl}
-use mathlib.Core.Bool.{Bool, true, false, cond}
+use mathlib.Core.Bool.{Bool, true, false, cond, ◌&&◌}
 use mathlib.Core.List.{List, [], ◌∷◌, ◌++◌}
-use mathlib.Core.Logic.{◌↔◌}
+use mathlib.Core.Logic.{◌↔◌, ◌⊎◌, inl, inr}
 use lib.Dec.{T, ltb, leb}
-use lib.ListN.{length}
-use borrow.Author.Tests.{ltb-false, le-leb, ne_eqb}
+use lib.ListN.{length, drop}
+use borrow.Author.Tests.{ltb-false, leb-true, le-leb, ne_eqb}
 use Rattle.octets.specs.Rows.{Row, first_code, NoneHolds, coded as no_zero}
 use Rattle.octets.proofs.Laws.{none-split, obeyed-exactly}
-use Rattle.octets.proofs.Bools.{or-neither, by-test}
+use Rattle.octets.proofs.Bools.{and_T, or-neither, by-test}
 use Rattle.memory.specs.declared.Format.{Format}
 use Rattle.memory.specs.Memory.{tables_wrong}
 use Rattle.status.specs.declared.Ledger.{Ledger}
@@ -22,18 +22,39 @@ use Rattle.unit.specs.State.{with_ledger, out_of_range}
 use Rattle.unit.specs.Packet.{own_rows, lent_wrong, arrival_rows, packet_rows, code_of}
 use Rattle.unit.specs.Answer.{refused_unit, unit_after, reply_of, seqs_after, lists_after, out_after}
 
--- no row of the commands' own bears 0
-own-coded : (F : Format) (k : Telecommand) (u : Unit) (p : List ℕ) → T (no_zero (own_rows F k u p))
+-- ── which codes there are
+-- no row's code is above a number
+abbrev capped : ℕ → List Row → Bool
+capped n [] = true
+capped n (r ∷ rs) = leb r.code n && capped n rs
+
+first-capped : (n : ℕ) (rs : List Row) → T (capped n rs) → first_code rs ≤ n
+first-capped n [] p = omega arith
+first-capped n (r ∷ rs) p =
+    let (h, q) = and_T (leb r.code n) (capped n rs) p in
+    by-test r.holds (λ e. rw e (leb-true r.code n h)) (λ e. rw e (first-capped n rs q))
+
+-- of the commands' own rows: no code is 0, none is above 10
+own-rows : (F : Format) (k : Telecommand) (u : Unit) (p : List ℕ) → T (no_zero (own_rows F k u p)) × T (capped 10 (own_rows F k u p))
 unfolding own_rows
-own-coded F Status u p = tt
-own-coded F Dump u p = tt
-own-coded F Allow u p = tt
-own-coded F Mode u p = tt
-own-coded F Clear u p = tt
-own-coded F Select u p = tt
-own-coded F Uplink u p = tt
-own-coded F Foreign u p = tt
-own-coded F Unheard u p = tt
+own-rows F Status u p = (tt, tt)
+own-rows F Dump u p = (tt, tt)
+own-rows F Allow u p = (tt, tt)
+own-rows F Mode u p = (tt, tt)
+own-rows F Clear u p = (tt, tt)
+own-rows F Select u p = (tt, tt)
+own-rows F Uplink u p = (tt, tt)
+own-rows F Foreign u p = (tt, tt)
+own-rows F Unheard u p = (tt, tt)
+
+-- a code up to 10, or 16, or 17
+abbrev pub Known : ℕ → Type 0
+Known code = (code ≤ 10) ⊎ ((code ≡ 16) ⊎ (code ≡ 17))
+
+known : (code : ℕ) (lent range : Bool) → code ≤ 10 → Known (cond lent 16 (cond range 17 code))
+known code true range h = inr (inl refl)
+known code false true h = inr (inr refl)
+known code false false h = inl h
 
 -- what is kept is kept whichever way a test goes
 refused-parts : (t : Bool) (u : Unit) (l : Ledger) → let v : Unit = cond t u (with_ledger l u) in
@@ -45,7 +66,13 @@ module _ (F : Format) (u : Unit) (seqs lists out p : List ℕ) where
   -- no row bears 0
   pub coded : T (no_zero (packet_rows F u seqs lists out p))
   unfolding packet_rows
-  coded = own-coded F (command_of p) u p
+  coded = (own-rows F (command_of p) u p).0
+
+  pub own-codes : Known (code_of F u seqs lists out p)
+  unfolding code_of packet_rows
+  own-codes =
+      let rest = drop 2 (packet_rows F u seqs lists out p) in
+      known (first_code rest) (lent_wrong F seqs lists out) (out_of_range F u) (first-capped 10 rest (own-rows F (command_of p) u p).1)
 
   -- ── when a packet is obeyed
   pub accepted : (code_of F u seqs lists out p ≡ 0) ↔ NoneHolds (packet_rows F u seqs lists out p)
