@@ -1,7 +1,10 @@
 -- One answer, proved: each contract is an equation with a definition of specs/, so two results are equal to the same thing.
 -- Assumes nothing.
-use mathlib.Core.Path.{sym, ◌∙◌}
+use Prim.Native.Nat.{ℕ}
+use mathlib.Core.Path.{◌≡◌, sym, ◌∙◌}
+use mathlib.Core.List.{List}
 use Rattle.telecommand.proofs.Laws.{same_result}
+use Rattle.line.specs.Writing.{Laid}
 use Rattle.promises.specs.OneAnswer.{
   OneOctetsByte,
   OneOctetsWord,
@@ -442,47 +445,51 @@ pub one-result-unit-Unit-step : OneUnitUnitStep
 one-result-unit-Unit-step κs a r r' e e' p q = p ∙ sym q
 
 -- ── line
+-- what is laid from a place on leaves one place behind it and one content
+same_laid : {old new new' : List ℕ} {at next next' : ℕ} {text : List ℕ} → Laid old new at next text → Laid old new' at next' text → ◌≡◌ {A = ℕ × List ℕ} (next, new) (next', new')
+same_laid p q = λ i. ((p.place ∙ sym q.place) i, (p.bytes ∙ sym q.bytes) i)
+
 pub one-result-line-put : OneLinePut
-one-result-line-put κs a r r' e e' p q = λ i. ((p.place ∙ sym q.place) i, (p.bytes ∙ sym q.bytes) i)
+one-result-line-put κs a r r' e e' p q = same_laid p q
 
 pub one-result-line-put-word : OneLinePutWord
-one-result-line-put-word κs a r r' e e' p q = λ i. ((p.place ∙ sym q.place) i, (p.bytes ∙ sym q.bytes) i)
+one-result-line-put-word κs a r r' e e' p q = same_laid p q
 
 pub one-result-line-put-number : OneLinePutNumber
-one-result-line-put-number κs a r r' e e' p q = λ i. ((p.place ∙ sym q.place) i, (p.bytes ∙ sym q.bytes) i)
+one-result-line-put-number κs a r r' e e' p q = same_laid p q
 
 pub one-result-line-put-blank-number : OneLinePutBlankNumber
-one-result-line-put-blank-number κs a r r' e e' p q = λ i. ((p.place ∙ sym q.place) i, (p.bytes ∙ sym q.bytes) i)
+one-result-line-put-blank-number κs a r r' e e' p q = same_laid p q
 
 pub one-result-line-put-numbers : OneLinePutNumbers
-one-result-line-put-numbers κs a r r' e e' p q = λ i. ((p.place ∙ sym q.place) i, (p.bytes ∙ sym q.bytes) i)
+one-result-line-put-numbers κs a r r' e e' p q = same_laid p q
 
 pub one-result-line-put-bits : OneLinePutBits
-one-result-line-put-bits κs a r r' e e' p q = λ i. ((p.place ∙ sym q.place) i, (p.bytes ∙ sym q.bytes) i)
+one-result-line-put-bits κs a r r' e e' p q = same_laid p q
 
 pub one-result-line-put-marks : OneLinePutMarks
-one-result-line-put-marks κs a r r' e e' p q = λ i. ((p.place ∙ sym q.place) i, (p.bytes ∙ sym q.bytes) i)
+one-result-line-put-marks κs a r r' e e' p q = same_laid p q
 
 pub one-result-line-put-octet : OneLinePutOctet
-one-result-line-put-octet κs a r r' e e' p q = λ i. ((p.place ∙ sym q.place) i, (p.bytes ∙ sym q.bytes) i)
+one-result-line-put-octet κs a r r' e e' p q = same_laid p q
 
 pub one-result-line-put-octets : OneLinePutOctets
-one-result-line-put-octets κs a r r' e e' p q = λ i. ((p.place ∙ sym q.place) i, (p.bytes ∙ sym q.bytes) i)
+one-result-line-put-octets κs a r r' e e' p q = same_laid p q
 
 pub one-result-line-put-answer : OneLinePutAnswer
-one-result-line-put-answer κs a r r' e e' p q = λ i. ((p.place ∙ sym q.place) i, (p.bytes ∙ sym q.bytes) i)
+one-result-line-put-answer κs a r r' e e' p q = same_laid p q
 
 pub one-result-line-put-reason : OneLinePutReason
-one-result-line-put-reason κs a r r' e e' p q = λ i. ((p.place ∙ sym q.place) i, (p.bytes ∙ sym q.bytes) i)
+one-result-line-put-reason κs a r r' e e' p q = same_laid p q
 
 pub one-result-line-put-block : OneLinePutBlock
-one-result-line-put-block κs a r r' e e' p q = λ i. ((p.place ∙ sym q.place) i, (p.bytes ∙ sym q.bytes) i)
+one-result-line-put-block κs a r r' e e' p q = same_laid p q
 
 pub one-result-line-put-event : OneLinePutEvent
-one-result-line-put-event κs a r r' e e' p q = λ i. ((p.place ∙ sym q.place) i, (p.bytes ∙ sym q.bytes) i)
+one-result-line-put-event κs a r r' e e' p q = same_laid p q
 
 pub one-result-line-put-bad : OneLinePutBad
-one-result-line-put-bad κs a r r' e e' p q = λ i. ((p.place ∙ sym q.place) i, (p.bytes ∙ sym q.bytes) i)
+one-result-line-put-bad κs a r r' e e' p q = same_laid p q
 
 pub one-result-line-is-hex : OneLineIsHex
 one-result-line-is-hex κs a r r' e e' p q = p ∙ sym q
@@ -543,46 +550,46 @@ one-result-keel-keel-cards-check κs a r r' e e' p q = λ i. ((p.0 ∙ sym q.0) 
 
 -- ── console
 pub one-result-console-Page-over : OneConsolePageOver
-one-result-console-Page-over κs a r r' e e' p q = λ i. ((p.1.0 ∙ sym q.1.0) i, (p.1.1 ∙ sym q.1.1) i)
+one-result-console-Page-over κs a r r' e e' p q = λ i. ((p.1.1 ∙ sym q.1.1) i, (p.1.0 ∙ sym q.1.0) i)
 
 pub one-result-console-Page-show : OneConsolePageShow
-one-result-console-Page-show T laws g d κs a r r' e e' p q = λ i. ((p.1.0 ∙ sym q.1.0) i, (p.1.1 ∙ sym q.1.1) i)
+one-result-console-Page-show T laws g d κs a r r' e e' p q = λ i. ((p.1.1 ∙ sym q.1.1) i, (p.1.0 ∙ sym q.1.0) i)
 
 pub one-result-console-Page-make-room : OneConsolePageMakeRoom
-one-result-console-Page-make-room T laws g d κs a r r' e e' p q = λ i. ((p.1.0 ∙ sym q.1.0) i, (p.1.1 ∙ sym q.1.1) i)
+one-result-console-Page-make-room T laws g d κs a r r' e e' p q = λ i. ((p.1.1 ∙ sym q.1.1) i, (p.1.0 ∙ sym q.1.0) i)
 
 pub one-result-console-Page-put : OneConsolePagePut
-one-result-console-Page-put κs a r r' e e' p q = λ i. ((p.1.bytes ∙ sym q.1.bytes) i, (p.1.place ∙ sym q.1.place) i)
+one-result-console-Page-put κs a r r' e e' p q = same_laid p.1 q.1
 
 pub one-result-console-Page-put-word : OneConsolePagePutWord
-one-result-console-Page-put-word κs a r r' e e' p q = λ i. ((p.1.bytes ∙ sym q.1.bytes) i, (p.1.place ∙ sym q.1.place) i)
+one-result-console-Page-put-word κs a r r' e e' p q = same_laid p.1 q.1
 
 pub one-result-console-Page-put-number : OneConsolePagePutNumber
-one-result-console-Page-put-number κs a r r' e e' p q = λ i. ((p.1.bytes ∙ sym q.1.bytes) i, (p.1.place ∙ sym q.1.place) i)
+one-result-console-Page-put-number κs a r r' e e' p q = same_laid p.1 q.1
 
 pub one-result-console-Page-put-numbers : OneConsolePagePutNumbers
-one-result-console-Page-put-numbers κs a r r' e e' p q = λ i. ((p.1.bytes ∙ sym q.1.bytes) i, (p.1.place ∙ sym q.1.place) i)
+one-result-console-Page-put-numbers κs a r r' e e' p q = same_laid p.1 q.1
 
 pub one-result-console-Page-put-bits : OneConsolePagePutBits
-one-result-console-Page-put-bits κs a r r' e e' p q = λ i. ((p.1.bytes ∙ sym q.1.bytes) i, (p.1.place ∙ sym q.1.place) i)
+one-result-console-Page-put-bits κs a r r' e e' p q = same_laid p.1 q.1
 
 pub one-result-console-Page-put-octets : OneConsolePagePutOctets
-one-result-console-Page-put-octets κs a r r' e e' p q = λ i. ((p.1.bytes ∙ sym q.1.bytes) i, (p.1.place ∙ sym q.1.place) i)
+one-result-console-Page-put-octets κs a r r' e e' p q = same_laid p.1 q.1
 
 pub one-result-console-Page-put-reason : OneConsolePagePutReason
-one-result-console-Page-put-reason κs a r r' e e' p q = λ i. ((p.1.bytes ∙ sym q.1.bytes) i, (p.1.place ∙ sym q.1.place) i)
+one-result-console-Page-put-reason κs a r r' e e' p q = same_laid p.1 q.1
 
 pub one-result-console-Page-put-list : OneConsolePagePutList
-one-result-console-Page-put-list κs a r r' e e' p q = λ i. ((p.1.bytes ∙ sym q.1.bytes) i, (p.1.place ∙ sym q.1.place) i)
+one-result-console-Page-put-list κs a r r' e e' p q = same_laid p.1 q.1
 
 pub one-result-console-Page-put-answer : OneConsolePagePutAnswer
-one-result-console-Page-put-answer κs a r r' e e' p q = λ i. ((p.1.bytes ∙ sym q.1.bytes) i, (p.1.place ∙ sym q.1.place) i)
+one-result-console-Page-put-answer κs a r r' e e' p q = same_laid p.1 q.1
 
 pub one-result-console-Page-put-block : OneConsolePagePutBlock
-one-result-console-Page-put-block κs a r r' e e' p q = λ i. ((p.1.bytes ∙ sym q.1.bytes) i, (p.1.place ∙ sym q.1.place) i)
+one-result-console-Page-put-block κs a r r' e e' p q = same_laid p.1 q.1
 
 pub one-result-console-Page-put-event : OneConsolePagePutEvent
-one-result-console-Page-put-event κs a r r' e e' p q = λ i. ((p.1.bytes ∙ sym q.1.bytes) i, (p.1.place ∙ sym q.1.place) i)
+one-result-console-Page-put-event κs a r r' e e' p q = same_laid p.1 q.1
 
 pub one-result-console-Page-put-bad : OneConsolePagePutBad
-one-result-console-Page-put-bad κs a r r' e e' p q = λ i. ((p.1.bytes ∙ sym q.1.bytes) i, (p.1.place ∙ sym q.1.place) i)
+one-result-console-Page-put-bad κs a r r' e e' p q = same_laid p.1 q.1

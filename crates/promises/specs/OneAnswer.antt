@@ -453,48 +453,48 @@ OneKeelKeelCardsUpdate = One (ℕ × List ℕ) keel.keel_cards_update.Kinds.ps k
 abbrev pub OneKeelKeelCardsCheck : Type 0
 OneKeelKeelCardsCheck = One (ℕ × List ℕ) keel.keel_cards_check.Kinds.ps keel.keel_cards_check.Kinds.r keel.keel_cards_check.Reads.Learnt (λ κs r (_, (_, (_, (report, _)))). (r, report.now))
 
--- ── console: a page, by its bytes and the place of the next text. Nothing is said of what it shows, by any printer, nor of arguments and input
+-- ── console: a page, by the place of the next text and its bytes. Nothing is said of what it shows, by any printer, nor of arguments and input
 abbrev pub OneConsolePageOver : Type 0
-OneConsolePageOver = One (List ℕ × ℕ) console.Page.over.Kinds.ps console.Page.over.Kinds.r console.Page.over.Reads.Learnt (λ κs r e. (r.text.now, r.at))
+OneConsolePageOver = One (ℕ × List ℕ) console.Page.over.Kinds.ps console.Page.over.Kinds.r console.Page.over.Reads.Learnt (λ κs r e. (r.at, r.text.now))
 
 abbrev pub OneConsolePageShow : Type 2
-OneConsolePageShow = (T : RattleType) (laws : Laws T) (g : Ghosts T.Denot) (d : Dict) → One (List ℕ × ℕ) (console.Page.show.Kinds.ps T laws) (console.Page.show.Kinds.r T laws) (console.Page.show.Reads.Learnt T laws g d) (λ κs r e. (e.0.now.text.now, e.0.now.at))
+OneConsolePageShow = (T : RattleType) (laws : Laws T) (g : Ghosts T.Denot) (d : Dict) → One (ℕ × List ℕ) (console.Page.show.Kinds.ps T laws) (console.Page.show.Kinds.r T laws) (console.Page.show.Reads.Learnt T laws g d) (λ κs r e. (e.0.now.at, e.0.now.text.now))
 
 abbrev pub OneConsolePageMakeRoom : Type 2
-OneConsolePageMakeRoom = (T : RattleType) (laws : Laws T) (g : Ghosts T.Denot) (d : Dict) → One (List ℕ × ℕ) (console.Page.make_room.Kinds.ps T laws) (console.Page.make_room.Kinds.r T laws) (console.Page.make_room.Reads.Learnt T laws g d) (λ κs r e. (e.0.now.text.now, e.0.now.at))
+OneConsolePageMakeRoom = (T : RattleType) (laws : Laws T) (g : Ghosts T.Denot) (d : Dict) → One (ℕ × List ℕ) (console.Page.make_room.Kinds.ps T laws) (console.Page.make_room.Kinds.r T laws) (console.Page.make_room.Reads.Learnt T laws g d) (λ κs r e. (e.0.now.at, e.0.now.text.now))
 
 abbrev pub OneConsolePagePut : Type 0
-OneConsolePagePut = One (List ℕ × ℕ) console.Page.put.Kinds.ps console.Page.put.Kinds.r console.Page.put.Reads.Learnt (λ κs r e. (e.0.now.text.now, e.0.now.at))
+OneConsolePagePut = One (ℕ × List ℕ) console.Page.put.Kinds.ps console.Page.put.Kinds.r console.Page.put.Reads.Learnt (λ κs r e. (e.0.now.at, e.0.now.text.now))
 
 abbrev pub OneConsolePagePutWord : Type 0
-OneConsolePagePutWord = One (List ℕ × ℕ) console.Page.put_word.Kinds.ps console.Page.put_word.Kinds.r console.Page.put_word.Reads.Learnt (λ κs r e. (e.0.now.text.now, e.0.now.at))
+OneConsolePagePutWord = One (ℕ × List ℕ) console.Page.put_word.Kinds.ps console.Page.put_word.Kinds.r console.Page.put_word.Reads.Learnt (λ κs r e. (e.0.now.at, e.0.now.text.now))
 
 abbrev pub OneConsolePagePutNumber : Type 0
-OneConsolePagePutNumber = One (List ℕ × ℕ) console.Page.put_number.Kinds.ps console.Page.put_number.Kinds.r console.Page.put_number.Reads.Learnt (λ κs r e. (e.0.now.text.now, e.0.now.at))
+OneConsolePagePutNumber = One (ℕ × List ℕ) console.Page.put_number.Kinds.ps console.Page.put_number.Kinds.r console.Page.put_number.Reads.Learnt (λ κs r e. (e.0.now.at, e.0.now.text.now))
 
 abbrev pub OneConsolePagePutNumbers : Type 0
-OneConsolePagePutNumbers = One (List ℕ × ℕ) console.Page.put_numbers.Kinds.ps console.Page.put_numbers.Kinds.r console.Page.put_numbers.Reads.Learnt (λ κs r e. (e.0.now.text.now, e.0.now.at))
+OneConsolePagePutNumbers = One (ℕ × List ℕ) console.Page.put_numbers.Kinds.ps console.Page.put_numbers.Kinds.r console.Page.put_numbers.Reads.Learnt (λ κs r e. (e.0.now.at, e.0.now.text.now))
 
 abbrev pub OneConsolePagePutBits : Type 0
-OneConsolePagePutBits = One (List ℕ × ℕ) console.Page.put_bits.Kinds.ps console.Page.put_bits.Kinds.r console.Page.put_bits.Reads.Learnt (λ κs r e. (e.0.now.text.now, e.0.now.at))
+OneConsolePagePutBits = One (ℕ × List ℕ) console.Page.put_bits.Kinds.ps console.Page.put_bits.Kinds.r console.Page.put_bits.Reads.Learnt (λ κs r e. (e.0.now.at, e.0.now.text.now))
 
 abbrev pub OneConsolePagePutOctets : Type 0
-OneConsolePagePutOctets = One (List ℕ × ℕ) console.Page.put_octets.Kinds.ps console.Page.put_octets.Kinds.r console.Page.put_octets.Reads.Learnt (λ κs r e. (e.0.now.text.now, e.0.now.at))
+OneConsolePagePutOctets = One (ℕ × List ℕ) console.Page.put_octets.Kinds.ps console.Page.put_octets.Kinds.r console.Page.put_octets.Reads.Learnt (λ κs r e. (e.0.now.at, e.0.now.text.now))
 
 abbrev pub OneConsolePagePutReason : Type 0
-OneConsolePagePutReason = One (List ℕ × ℕ) console.Page.put_reason.Kinds.ps console.Page.put_reason.Kinds.r console.Page.put_reason.Reads.Learnt (λ κs r e. (e.0.now.text.now, e.0.now.at))
+OneConsolePagePutReason = One (ℕ × List ℕ) console.Page.put_reason.Kinds.ps console.Page.put_reason.Kinds.r console.Page.put_reason.Reads.Learnt (λ κs r e. (e.0.now.at, e.0.now.text.now))
 
 abbrev pub OneConsolePagePutList : Type 0
-OneConsolePagePutList = One (List ℕ × ℕ) console.Page.put_list.Kinds.ps console.Page.put_list.Kinds.r console.Page.put_list.Reads.Learnt (λ κs r e. (e.0.now.text.now, e.0.now.at))
+OneConsolePagePutList = One (ℕ × List ℕ) console.Page.put_list.Kinds.ps console.Page.put_list.Kinds.r console.Page.put_list.Reads.Learnt (λ κs r e. (e.0.now.at, e.0.now.text.now))
 
 abbrev pub OneConsolePagePutAnswer : Type 0
-OneConsolePagePutAnswer = One (List ℕ × ℕ) console.Page.put_answer.Kinds.ps console.Page.put_answer.Kinds.r console.Page.put_answer.Reads.Learnt (λ κs r e. (e.0.now.text.now, e.0.now.at))
+OneConsolePagePutAnswer = One (ℕ × List ℕ) console.Page.put_answer.Kinds.ps console.Page.put_answer.Kinds.r console.Page.put_answer.Reads.Learnt (λ κs r e. (e.0.now.at, e.0.now.text.now))
 
 abbrev pub OneConsolePagePutBlock : Type 0
-OneConsolePagePutBlock = One (List ℕ × ℕ) console.Page.put_block.Kinds.ps console.Page.put_block.Kinds.r console.Page.put_block.Reads.Learnt (λ κs r e. (e.0.now.text.now, e.0.now.at))
+OneConsolePagePutBlock = One (ℕ × List ℕ) console.Page.put_block.Kinds.ps console.Page.put_block.Kinds.r console.Page.put_block.Reads.Learnt (λ κs r e. (e.0.now.at, e.0.now.text.now))
 
 abbrev pub OneConsolePagePutEvent : Type 0
-OneConsolePagePutEvent = One (List ℕ × ℕ) console.Page.put_event.Kinds.ps console.Page.put_event.Kinds.r console.Page.put_event.Reads.Learnt (λ κs r e. (e.0.now.text.now, e.0.now.at))
+OneConsolePagePutEvent = One (ℕ × List ℕ) console.Page.put_event.Kinds.ps console.Page.put_event.Kinds.r console.Page.put_event.Reads.Learnt (λ κs r e. (e.0.now.at, e.0.now.text.now))
 
 abbrev pub OneConsolePagePutBad : Type 0
-OneConsolePagePutBad = One (List ℕ × ℕ) console.Page.put_bad.Kinds.ps console.Page.put_bad.Kinds.r console.Page.put_bad.Reads.Learnt (λ κs r e. (e.0.now.text.now, e.0.now.at))
+OneConsolePagePutBad = One (ℕ × List ℕ) console.Page.put_bad.Kinds.ps console.Page.put_bad.Kinds.r console.Page.put_bad.Reads.Learnt (λ κs r e. (e.0.now.at, e.0.now.text.now))
